@@ -1,10 +1,40 @@
-// A picture's sizes, pixels and edge rules, and the checks that every entry shares.
+// A picture's sizes, pixels and edge rules, and the checks that several entries share.
 ghost use mathlib.Core.Path.{_≡_};
-ghost use mathlib.Core.Bool.{true, false};
-ghost use Prim.Native.Nat.{ℕ};
-ghost use Rattle.picture.specs.Sizes.{Sides, levelZero, halfLevel, bytesOf};
+ghost use mathlib.Core.Bool.{true, false, cond};
+ghost use Prim.Native.Nat.{ℕ, _≤_};
+ghost use Rattle.picture.specs.Sizes.{fullSize, levelZero, halfLevel, levelBytes, Sized};
 ghost use Rattle.picture.specs.Modes.{modeOf};
-ghost use Rattle.picture.specs.Refusal.{firstOf, wrongSides, wrongLength, tooShort, tooDeep, wrongEdge};
+ghost use Rattle.picture.specs.Refusal.{wrongSide, wrongSides, wrongLength, tooShort, tooDeep, wrongEdge};
+
+// Refusal numbers; 0 is done.
+pub const WRONG_SIDES: u32 = 1;
+
+pub const WRONG_LENGTH: u32 = 2;
+
+pub const TOO_SHORT: u32 = 3;
+
+pub const WRONG_TAPS: u32 = 4;
+
+pub const WRONG_WEIGHT: u32 = 5;
+
+pub const TOO_DEEP: u32 = 6;
+
+pub const NOT_FINITE: u32 = 7;
+
+pub const WRONG_COLOUR: u32 = 8;
+
+pub const WRONG_EDGE: u32 = 9;
+
+pub const BROKEN_PLATE: u32 = 10;
+
+pub const OFF_GRID: u32 = 11;
+
+pub const NO_PICTURE: u32 = 12;
+
+// The largest side of a picture, and the most decimations.
+pub const MAX_SIDE: u32 = 4096;
+
+pub const MAX_DECIMATIONS: u32 = 12;
 
 // A size in full pixels.
 pub struct FullSize {
@@ -32,4 +62,129 @@ pub enum EdgeMode {
     Wrap,
     Mirror,
     None,
+}
+
+// A full size is made from checked sides alone.
+pub fn full_size(w: u32, h: u32) -> FullSize
+    requires { ⌜ wrongSides w h ≡ false ⌝ }
+    ensures { λ r. ⌜ r ≡ fullSize w h ⌝ }
+{
+    FullSize {
+        w: w as usize,
+        h: h as usize,
+    }
+}
+
+impl FullSize {
+    // A level's size is made from the full size, as level 0, ..
+    pub fn level_zero(self) -> LevelSize
+        ensures { λ r. ⌜ r ≡ levelZero self ⌝ }
+    {
+        LevelSize {
+            w: self.w,
+            h: self.h,
+        }
+    }
+}
+
+impl LevelSize {
+    // .. or by halving another level's, upward.
+    pub fn half(self) -> LevelSize
+        requires { ⌜ Sized self ⌝ }
+        ensures { λ r. ⌜ r ≡ halfLevel self ⌝ }
+    {
+        LevelSize {
+            w: (self.w + 1) / 2,
+            h: (self.h + 1) / 2,
+        }
+    }
+
+    pub fn width(self) -> usize
+        ensures { λ r. ⌜ r ≡ self .w ⌝ }
+    {
+        self.w
+    }
+
+    pub fn height(self) -> usize
+        ensures { λ r. ⌜ r ≡ self .h ⌝ }
+    {
+        self.h
+    }
+
+    // How many bytes a level of this size has.
+    pub fn bytes(self) -> usize
+        requires { ⌜ Sized self ⌝ }
+        ensures { λ r. ⌜ r ≡ levelBytes self ⌝ }
+    {
+        4 * (self.w * self.h)
+    }
+}
+
+// The edge rule of a number; check 9 refuses those above 3.
+pub fn edge_mode(edge: u32) -> EdgeMode
+    ensures { λ r. ⌜ r ≡ modeOf edge ⌝ }
+{
+    match edge {
+        0 => EdgeMode::Duplicate,
+        1 => EdgeMode::Wrap,
+        2 => EdgeMode::Mirror,
+        _ => EdgeMode::None,
+    }
+}
+
+// This number where its check refuses, else what the later checks answer.
+pub fn first(number: u32, refuses: bool, later: u32) -> u32
+    ensures { λ r. ⌜ r ≡ cond refuses number later ⌝ }
+{
+    if refuses { number } else { later }
+}
+
+fn wrong_side(side: u32) -> bool
+    ensures { λ r. ⌜ r ≡ wrongSide side ⌝ }
+{
+    if side == 0 {
+        return true;
+    }
+    MAX_SIDE < side
+}
+
+// Refusal 1's condition.
+pub fn wrong_sides(w: u32, h: u32) -> bool
+    ensures { λ r. ⌜ r ≡ wrongSides w h ⌝ }
+{
+    if wrong_side(w) {
+        return true;
+    }
+    wrong_side(h)
+}
+
+// Refusal 2's condition. No product wraps, whatever the sides are.
+pub fn wrong_length(len: usize, w: u32, h: u32) -> bool
+    ensures { λ r. ⌜ r ≡ wrongLength len w h ⌝ }
+{
+    if len % 4 != 0 {
+        return true;
+    }
+    len / 4 != w as usize * h as usize
+}
+
+// Refusal 3's condition, of one work buffer.
+pub fn too_short(len: usize, w: u32, h: u32) -> bool
+    ensures { λ r. ⌜ r ≡ tooShort len w h ⌝ }
+{
+    len / 4 < w as usize * h as usize
+}
+
+// Refusal 6's condition.
+pub fn too_deep(n: u32) -> bool
+    ensures { λ r. ⌜ r ≡ tooDeep n ⌝ }
+{
+    MAX_DECIMATIONS < n
+}
+
+// Refusal 9's condition.
+pub fn wrong_edge(edge: u32) -> bool
+    ensures { λ r. ⌜ r ≡ wrongEdge edge ⌝ }
+{
+    3 < edge
 }

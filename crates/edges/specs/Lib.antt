@@ -1,0 +1,2 @@
+-- The definitions that contracts cite of an edge rule.
+pub mod Edges

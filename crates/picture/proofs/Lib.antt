@@ -1,0 +1,8 @@
+-- Laws of the definitions of specs/, for this crate's proofs and for those above it.
+pub mod Tests
+pub mod Quarter
+pub mod Sizes
+pub mod Levels
+pub mod Build
+pub mod Planes
+pub mod Passed

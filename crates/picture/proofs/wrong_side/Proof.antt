@@ -1,0 +1,17 @@
+-- Each way out is one side of the definition's "or".
+use borrow.Author.Tests.{eq-eqb, ne-eqb}
+use Rattle.picture.specs.Sizes.{maxSide}
+use Rattle.picture.specs.Refusal.{wrongSide}
+use Rattle.picture.proofs.wrong_side.Statement.{statement}
+use Rattle.picture.proofs.wrong_side.Tie as tie
+
+returns : tie.Need-returns
+unfolding wrongSide
+returns c = rw (eq-eqb _ _ (c .if1 .taken))
+
+returns-2 : tie.Need-returns-2
+unfolding wrongSide maxSide
+returns-2 c = rw (ne-eqb _ _ (c .if1 .left))
+
+pub wrong-side-spec : {M : Type 1} → statement M
+wrong-side-spec = tie.close (tie.spec returns returns-2)

@@ -1,0 +1,52 @@
+-- Refusals: the checks in number order, and the conditions that several entries share.
+use mathlib.Core.Bool.{Bool, true, false, not, cond, _||_}
+use mathlib.Core.List.{List, [], _∷_}
+use Prim.Native.Nat.{ℕ}
+use lib.Dec.{ltb, eqb}
+use Rattle.picture.specs.Planes.{bytesOf}
+use Rattle.picture.specs.Sizes.{maxSide}
+
+-- one check of an entry: its number, and whether it refuses
+pub record Check : Type 0 where
+  pub number : ℕ
+  pub refuses : Bool
+
+abbrev pub check : ℕ → Bool → Check
+check k b = record { number = k; refuses = b }
+
+-- the number of the first check that refuses; 0 where none does
+unfoldable pub firstOf : List Check → ℕ
+firstOf [] = 0
+firstOf (k ∷ ks) = cond (k .refuses) (k .number) (firstOf ks)
+
+-- a side that is 0 or above the largest
+unfoldable pub wrongSide : ℕ → Bool
+wrongSide s = eqb s 0 || ltb maxSide s
+
+-- 1: w or h is 0 or above 4096
+unfoldable pub wrongSides : ℕ → ℕ → Bool
+wrongSides w h = wrongSide w || wrongSide h
+
+-- 2: the picture is not exactly 4wh bytes
+unfoldable pub wrongLength : ℕ → ℕ → ℕ → Bool
+wrongLength len w h = not (eqb len (bytesOf w h))
+
+-- 3: a work buffer is too short
+unfoldable pub tooShort : ℕ → ℕ → ℕ → Bool
+tooShort len w h = ltb len (bytesOf w h)
+
+-- the most decimations
+unfoldable pub maxDecimations : ℕ
+maxDecimations = 12
+
+-- 6: n is above 12
+unfoldable pub tooDeep : ℕ → Bool
+tooDeep n = ltb maxDecimations n
+
+-- 9: the edge number is not 0, 1, 2 or 3
+unfoldable pub wrongEdge : ℕ → Bool
+wrongEdge edge = ltb 3 edge
+
+-- checks 1 and 2, which every entry on a picture begins with
+abbrev pub pictureChecks : ℕ → ℕ → ℕ → List Check
+pictureChecks len w h = check 1 (wrongSides w h) ∷ check 2 (wrongLength len w h) ∷ []
