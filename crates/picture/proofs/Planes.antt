@@ -8,13 +8,13 @@ use lib.ListN.{length, getD}
 use Rattle.picture.specs.Planes.{Plane, bytesOf, chan, painted}
 use Rattle.picture.proofs.Build.{length-build, getD-build, build-ext}
 
--- a pixel's place within its row, and its row, from the place among all
-module _ (w x y : ℕ) (l : x < w) where
-  column : (y * w + x) % w ≡ x
-  column = mul-add-mod-self-right y w x ∙ mod-eq-of-lt l
+-- y whole groups of w and x more: y and x back from the place among all
+module _ (w y x : ℕ) (l : x < w) where
+  pub remainder : (y * w + x) % w ≡ x
+  remainder = mul-add-mod-self-right y w x ∙ mod-eq-of-lt l
 
-  row : (y * w + x) / w ≡ y
-  row = mul-add-div-right {m = w} (omega arith) y x ∙ ap (λ (k : ℕ). y + k) (div-eq-of-lt l) ∙ add-zero y
+  pub quotient : (y * w + x) / w ≡ y
+  quotient = mul-add-div-right {m = w} (omega arith) y x ∙ ap (λ (k : ℕ). y + k) (div-eq-of-lt l) ∙ add-zero y
 
 -- pixel x, y of w by h comes before the last has ended
 pub pixel-fits : (w h x y : ℕ) → x < w → y < h → y * w + x < h * w
@@ -33,7 +33,7 @@ module _ (w h : ℕ) where
       let at : i < bytesOf w h = omega (arith, pixel-fits w h x y lx ly, mul-comm h w) in
       let pixel : i / 4 ≡ y * w + x = omega arith in
       let lane : i % 4 ≡ c = omega arith in
-      rw (getD-build (bytesOf w h) _ i at, pixel, lane, column w x y lx, row w x y lx)
+      rw (getD-build (bytesOf w h) _ i at, pixel, lane, remainder w y x lx, quotient w y x lx)
 
   -- a list of the right length with these channels is the painted picture
   pub painted-ext : (F : ℕ → Plane) (l : List ℕ) → length l ≡ bytesOf w h →

@@ -1,0 +1,4 @@
+-- The definitions that contracts cite of a pass along a line, of both axes, and of the whole blur.
+pub mod Passes
+pub mod Blur
+pub mod Written
