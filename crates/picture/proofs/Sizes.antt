@@ -6,7 +6,7 @@ use native.Mathlib.Nat.{mul-le-mul, mul-le-mul-left, mul-pos}
 use native.Mathlib.Omega.{arith}
 use borrow.Author.Tests.{ltb-false, eqb-false}
 use Rattle.picture.specs.Sizes.{maxSide, sideRoom, half, levelSize, halfLevel, levelBytes, Sized}
-use Rattle.picture.specs.Refusal.{wrongSide, wrongSides}
+use Rattle.picture.specs.Refusal.{zeroOrAbove, wrongSides}
 use Rattle.picture.specs.declared.LevelSize.{LevelSize}
 use Rattle.picture.proofs.Tests.{neither}
 
@@ -20,8 +20,8 @@ unfolding sideRoom
 room-is = omega arith
 
 -- a side that check 1 lets through
-side : (s : ℕ) → wrongSide s ≡ false → (1 ≤ s) × (s ≤ sideRoom)
-unfolding wrongSide
+side : (s : ℕ) → zeroOrAbove maxSide s ≡ false → (1 ≤ s) × (s ≤ sideRoom)
+unfolding zeroOrAbove
 side s h =
     let n = neither _ _ h in
     let low = eqb-false s 0 (n .0) in

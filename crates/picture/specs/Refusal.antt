@@ -19,13 +19,13 @@ unfoldable pub firstOf : List Check → ℕ
 firstOf [] = 0
 firstOf (k ∷ ks) = cond (k .refuses) (k .number) (firstOf ks)
 
--- a side that is 0 or above the largest
-unfoldable pub wrongSide : ℕ → Bool
-wrongSide s = eqb s 0 || ltb maxSide s
+-- a count that is 0 or above the most there may be
+unfoldable pub zeroOrAbove : ℕ → ℕ → Bool
+zeroOrAbove most count = eqb count 0 || ltb most count
 
 -- 1: w or h is 0 or above 4096
 unfoldable pub wrongSides : ℕ → ℕ → Bool
-wrongSides w h = wrongSide w || wrongSide h
+wrongSides w h = zeroOrAbove maxSide w || zeroOrAbove maxSide h
 
 -- 2: the picture is not exactly 4wh bytes
 unfoldable pub wrongLength : ℕ → ℕ → ℕ → Bool
@@ -34,6 +34,14 @@ wrongLength len w h = not (eqb len (bytesOf w h))
 -- 3: a work buffer is too short
 unfoldable pub tooShort : ℕ → ℕ → ℕ → Bool
 tooShort len w h = ltb len (bytesOf w h)
+
+-- the most taps of a kernel
+unfoldable pub maxTaps : ℕ
+maxTaps = 33
+
+-- 4: the tap count is 0 or above 33
+unfoldable pub wrongTaps : ℕ → Bool
+wrongTaps taps = zeroOrAbove maxTaps taps
 
 -- the most decimations
 unfoldable pub maxDecimations : ℕ

@@ -2,9 +2,11 @@
 ghost use mathlib.Core.Path.{_≡_};
 ghost use mathlib.Core.Bool.{true, false, cond};
 ghost use Prim.Native.Nat.{ℕ, _≤_};
+ghost use lib.ListN.{length};
+ghost use Rattle.picture.specs.Planes.{cleared};
 ghost use Rattle.picture.specs.Sizes.{fullSize, levelZero, halfLevel, levelBytes, Sized};
 ghost use Rattle.picture.specs.Modes.{modeOf};
-ghost use Rattle.picture.specs.Refusal.{wrongSide, wrongSides, wrongLength, tooShort, tooDeep, wrongEdge};
+ghost use Rattle.picture.specs.Refusal.{zeroOrAbove, wrongSides, wrongLength, tooShort, wrongTaps, tooDeep, wrongEdge};
 
 // Refusal numbers; 0 is done.
 pub const WRONG_SIDES: u32 = 1;
@@ -31,8 +33,10 @@ pub const OFF_GRID: u32 = 11;
 
 pub const NO_PICTURE: u32 = 12;
 
-// The largest side of a picture, and the most decimations.
-pub const MAX_SIDE: u32 = 4096;
+// The largest side of a picture, the most taps of a kernel and the most decimations.
+pub const MAX_SIDE: usize = 4096;
+
+pub const MAX_TAPS: usize = 33;
 
 pub const MAX_DECIMATIONS: u32 = 12;
 
@@ -139,23 +143,24 @@ pub fn first(number: u32, refuses: bool, later: u32) -> u32
     if refuses { number } else { later }
 }
 
-fn wrong_side(side: u32) -> bool
-    ensures { λ r. ⌜ r ≡ wrongSide side ⌝ }
+// A count that is 0 or above the most there may be.
+fn zero_or_above(most: usize, count: usize) -> bool
+    ensures { λ r. ⌜ r ≡ zeroOrAbove most count ⌝ }
 {
-    if side == 0 {
+    if count == 0 {
         return true;
     }
-    MAX_SIDE < side
+    most < count
 }
 
 // Refusal 1's condition.
 pub fn wrong_sides(w: u32, h: u32) -> bool
     ensures { λ r. ⌜ r ≡ wrongSides w h ⌝ }
 {
-    if wrong_side(w) {
+    if zero_or_above(MAX_SIDE, w as usize) {
         return true;
     }
-    wrong_side(h)
+    zero_or_above(MAX_SIDE, h as usize)
 }
 
 // Refusal 2's condition. No product wraps, whatever the sides are.
@@ -175,6 +180,13 @@ pub fn too_short(len: usize, w: u32, h: u32) -> bool
     len / 4 < w as usize * h as usize
 }
 
+// Refusal 4's condition.
+pub fn wrong_taps(taps: usize) -> bool
+    ensures { λ r. ⌜ r ≡ wrongTaps taps ⌝ }
+{
+    zero_or_above(MAX_TAPS, taps)
+}
+
 // Refusal 6's condition.
 pub fn too_deep(n: u32) -> bool
     ensures { λ r. ⌜ r ≡ tooDeep n ⌝ }
@@ -187,4 +199,16 @@ pub fn wrong_edge(edge: u32) -> bool
     ensures { λ r. ⌜ r ≡ wrongEdge edge ⌝ }
 {
     3 < edge
+}
+
+// Sets the first n bytes of a work buffer to zero.
+pub fn clear(work: &mut [u8], n: usize)
+    requires { ⌜ n ≤ length (now work) ⌝ }
+    ensures { λ _. ⌜ now (work .exit) ≡ cleared n (now (work .entry)) ⌝ }
+{
+    let mut i = 0;
+    while i < n {
+        work[i] = 0;
+        i += 1;
+    }
 }

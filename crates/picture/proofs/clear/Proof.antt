@@ -1,0 +1,58 @@
+-- The first i bytes are zero, and the rest is as it was.
+use mathlib.Core.Path.{_≡_, refl}
+use mathlib.Core.List.{_++_}
+use Prim.Native.Nat.{_≤_, _-_}
+use native.Mathlib.Omega.{arith}
+use borrow.Author.Fill.{fill-more}
+use lib.ListN.{length, drop, replicate, length-set}
+use Rattle.picture.specs.Planes.{cleared}
+use Rattle.picture.proofs.clear.Statement.{statement}
+use Rattle.picture.proofs.clear.Tie as tie
+
+abbrev Inv-loop : tie.InvT-loop
+Inv-loop work₀ n i₀ work i = (i ≤ n) × (length work ≡ length work₀) × (work ≡ replicate i 0 ++ drop i work₀)
+
+abbrev μ-loop : tie.MeasureT-loop
+μ-loop work₀ n i₀ work i = n - i
+
+loop-holds : tie.Need-loop-holds Inv-loop μ-loop
+loop-holds c = (omega arith, refl, refl)
+
+slice-write-work : tie.Need-slice-write-work Inv-loop μ-loop
+slice-write-work c = omega arith
+
+add-i : tie.Need-add-i Inv-loop μ-loop
+add-i c = omega arith
+
+loop-less : tie.Need-loop-less Inv-loop μ-loop
+loop-less c = omega arith
+
+loop-again : tie.Need-loop-again Inv-loop μ-loop
+loop-again c = (
+  omega arith,
+  simp length-set (omega arith),
+  rw (c .before .loop .inv .2) (fill-more (c .before .loop .i) 0 (c .before .before .args .work .now) (omega arith)),
+)
+
+same-length : tie.Need-same-length Inv-loop μ-loop
+same-length c = omega arith
+
+returns : tie.Need-returns Inv-loop μ-loop
+unfolding cleared
+returns c =
+    let e : c .before .loop .i ≡ c .before .before .args .n = omega arith in
+    rw e at (c .before .loop .inv .2)
+
+pub clear-spec : {M : Type 1} → statement M
+clear-spec =
+    tie.close
+    (tie.spec
+    Inv-loop
+    μ-loop
+    loop-holds
+    slice-write-work
+    add-i
+    loop-less
+    loop-again
+    same-length
+    returns)
