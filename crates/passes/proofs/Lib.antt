@@ -1,3 +1,6 @@
 -- Laws of the passes, for the proofs of the crates above.
 pub mod Written
 pub mod Planes
+pub mod Local
+pub mod Relates
+pub mod Levels

@@ -1,4 +1,5 @@
--- The definitions that contracts cite of a pass along a line, of both axes, and of the whole blur.
+-- The definitions that contracts cite of a pass along a line, of both axes, of a level, and of the whole blur.
 pub mod Passes
 pub mod Blur
+pub mod Levels
 pub mod Written

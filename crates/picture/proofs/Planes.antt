@@ -53,3 +53,9 @@ module _ (w h : ℕ) where
         where
           pos-by : (a : ℕ) → (a ≡ 0 → ⊥) → 0 < a
           pos-by a f = omega arith
+
+-- planes that agree inside the picture paint the same bytes
+pub painted-same : (w h : ℕ) (F G : ℕ → Plane) → ((c x y : ℕ) → c < 4 → x < w → y < h → F c x y ≡ G c x y) → painted w h F ≡ painted w h G
+painted-same w h F G e =
+    painted-ext w h G (painted w h F) (length-painted w h F)
+    (λ c x y lc lx ly. chan-painted w h F c x y lc lx ly ∙ e c x y lc lx ly)

@@ -1,0 +1,4 @@
+-- Laws of the edge rules, for this crate's proofs and for those above it.
+pub mod Room
+pub mod Places
+pub mod Samples

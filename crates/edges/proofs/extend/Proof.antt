@@ -1,0 +1,77 @@
+-- Each arm's call answers the definition's arm of the same mode.
+use native.Mathlib.Omega.{arith}
+use native.Mathlib.Nat.{mod-lt}
+use borrow.Author.Needs.{needs}
+use Rattle.picture.proofs.Sizes.{room-is}
+use Rattle.edges.specs.Edges.{place}
+use Rattle.edges.proofs.extend.Statement.{statement}
+use Rattle.edges.proofs.extend.Tie as tie
+
+enum-told : tie.Need-enum-told
+enum-told c = search needs
+
+sub-t7 : tie.Need-sub-t7
+sub-t7 c = search needs
+
+inside-or-requires : tie.Need-inside-or-requires
+inside-or-requires c κs = search needs
+
+enum-told-2 : tie.Need-enum-told-2
+enum-told-2 c = search needs
+
+modulo-requires : tie.Need-modulo-requires
+modulo-requires c κs = (omega arith, omega arith, omega arith, omega arith)
+
+enum-told-3 : tie.Need-enum-told-3
+enum-told-3 c = search needs
+
+mul-modulo : tie.Need-mul-modulo
+mul-modulo c = omega (arith, room-is)
+
+modulo-requires-2 : tie.Need-modulo-requires-2
+modulo-requires-2 c κs = (omega arith, omega arith, omega arith, omega arith)
+
+reflected-requires : tie.Need-reflected-requires
+reflected-requires c κs = (rw (c .modulo2 .ensures) (mod-lt _ (omega arith)), omega arith)
+
+enum-told-4 : tie.Need-enum-told-4
+enum-told-4 c = search needs
+
+inside-or-requires-2 : tie.Need-inside-or-requires-2
+inside-or-requires-2 c κs = search needs
+
+returns : tie.Need-returns
+unfolding place
+returns c = simp (c .before .enum-told .given .1) (c .inside-or .ensures)
+
+returns-2 : tie.Need-returns-2
+unfolding place
+returns-2 c = simp (c .before .enum-told2 .given .1, c .modulo .ensures)
+
+returns-3 : tie.Need-returns-3
+unfolding place
+returns-3 c = simp (c .before .before .enum-told3 .given .1, c .reflected .ensures, c .before .modulo2 .ensures)
+
+returns-4 : tie.Need-returns-4
+unfolding place
+returns-4 c = simp (c .before .enum-told4 .given .1) (c .inside-or2 .ensures)
+
+pub extend-spec : {M : Type 1} → statement M
+extend-spec =
+    tie.close
+    (tie.spec
+    enum-told
+    sub-t7
+    inside-or-requires
+    enum-told-2
+    modulo-requires
+    enum-told-3
+    mul-modulo
+    modulo-requires-2
+    reflected-requires
+    enum-told-4
+    inside-or-requires-2
+    returns
+    returns-2
+    returns-3
+    returns-4)

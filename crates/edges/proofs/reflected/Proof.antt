@@ -1,0 +1,25 @@
+-- The test is the definition's, and twice a side fits.
+use native.Mathlib.Omega.{arith}
+use borrow.Author.Needs.{needs}
+use borrow.Author.Tests.{lt-ltb, le-ltb}
+use Rattle.picture.proofs.Sizes.{room-is}
+use Rattle.edges.proofs.reflected.Statement.{statement}
+use Rattle.edges.proofs.reflected.Tie as tie
+
+mul-t5 : tie.Need-mul-t5
+mul-t5 c = omega (arith, room-is)
+
+sub-t6 : tie.Need-sub-t6
+sub-t6 c = search needs
+
+sub-t7 : tie.Need-sub-t7
+sub-t7 c = search needs
+
+returns : tie.Need-returns
+returns c = simp (lt-ltb _ _ (c .if1 .taken))
+
+returns-2 : tie.Need-returns-2
+returns-2 c = simp (le-ltb _ _ (c .if1 .left))
+
+pub reflected-spec : {M : Type 1} → statement M
+reflected-spec = tie.close (tie.spec mul-t5 sub-t6 sub-t7 returns returns-2)

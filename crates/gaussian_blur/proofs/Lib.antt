@@ -1,0 +1,2 @@
+-- Laws of the blur of a level and of what the entry leaves.
+pub mod Step

@@ -1,0 +1,3 @@
+-- What the blur is, and what its entry answers.
+pub mod Blurred
+pub mod Outcome

@@ -1,0 +1,1 @@
+// The Gaussian blur with decimation: apply_blur, and the entry `blur`.
