@@ -2,3 +2,5 @@
 pub mod Room
 pub mod Places
 pub mod Samples
+pub mod Whole
+pub mod Raised

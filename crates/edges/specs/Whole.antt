@@ -1,5 +1,5 @@
 -- The edge rules on integers, as document 01 words them.
-use Prim.Native.Nat.{ℕ, suc, _-_, _*_, _%_}
+use Prim.Native.Nat.{ℕ, _+_, _-_, _*_, _%_}
 use mathlib.Core.Bool.{cond}
 use lib.Dec.{ltb}
 use lib.IntN.{ℤ, pos, negsuc}
@@ -38,4 +38,4 @@ plus (negsuc n) = 0
 
 abbrev pub minus : ℤ → ℕ
 minus (pos n) = 0
-minus (negsuc n) = suc n
+minus (negsuc n) = n + 1

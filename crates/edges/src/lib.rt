@@ -3,6 +3,7 @@ ghost use mathlib.Core.Path.{_≡_};
 ghost use Prim.Native.Nat.{_*_, _<_, _≤_};
 ghost use Rattle.picture.specs.Sizes.{sideRoom};
 ghost use Rattle.edges.specs.Edges.{insideOr, modulo, reflected, place, farthest, Reach};
+ghost use Rattle.edges.specs.Whole.{placeOf};
 use picture::EdgeMode;
 
 // An element of a line, or none.
@@ -52,4 +53,12 @@ pub fn extend(c: usize, d: usize, s: usize, mode: EdgeMode) -> At
         EdgeMode::Mirror => reflected(s, modulo(2 * s, c, d)),
         EdgeMode::None => inside_or(At::Outside, At::Outside, s, c, d),
     }
+}
+
+// The element of a line of s elements that a signed coordinate reads. The pair is raised by 2^31, so that neither part is negative.
+pub fn extend_signed(c: i32, s: usize, mode: EdgeMode) -> At
+    requires { ⌜ (0 < s) × (s ≤ sideRoom) ⌝ }
+    ensures { λ r. ⌜ r ≡ placeOf mode s c ⌝ }
+{
+    extend((c as i64 + 2147483648) as usize, 2147483648, s, mode)
 }

@@ -1,0 +1,6 @@
+-- Demand 3: how near the blur is to the exact blur.
+pub mod Sums
+pub mod Stages
+pub mod Passes
+pub mod Numerators
+pub mod Near
