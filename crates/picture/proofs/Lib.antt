@@ -6,3 +6,4 @@ pub mod Levels
 pub mod Build
 pub mod Planes
 pub mod Passed
+pub mod Answers

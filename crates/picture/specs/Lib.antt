@@ -4,3 +4,4 @@ pub mod Planes
 pub mod Sizes
 pub mod Modes
 pub mod Refusal
+pub mod Answer

@@ -1,0 +1,25 @@
+-- What a call comes to: refused, or done; and a call that answers 0 was done.
+use mathlib.Core.Path.{_≡_, refl, sym, ap}
+use mathlib.Core.Bool.{Bool, true, false, cond}
+use Prim.Native.Nat.{ℕ}
+use lib.Dec.{eqb}
+use borrow.Author.Tests.{eqb-false, eq-eqb, ne-eqb}
+use Rattle.picture.specs.Answer.{Answer, answered, settled}
+
+module _ {A : Type 0} (refusal : ℕ) (before after : A) where
+  pub refused : (refusal ≡ 0 → ⊥) → answered refusal before ≡ settled refusal before after
+  unfolding settled
+  refused f = rw (ne-eqb refusal 0 f)
+
+  pub done : refusal ≡ 0 → answered 0 after ≡ settled refusal before after
+  unfolding settled
+  done e = rw (eq-eqb refusal 0 e)
+
+  -- answered 0: what is left is what a call that is done leaves
+  pub accepted : (left : A) → answered 0 left ≡ settled refusal before after → left ≡ after
+  unfolding settled
+  accepted left e = by (eqb refusal 0) refl e
+    where
+      by : (b : Bool) → eqb refusal 0 ≡ b → answered 0 left ≡ cond b (answered 0 after) (answered refusal before) → left ≡ after
+      by true h e = ap (λ (o : Answer A). o .left) e
+      by false h e = absurd (eqb-false refusal 0 h (sym (ap (λ (o : Answer A). o .number) e)))

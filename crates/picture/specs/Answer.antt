@@ -1,0 +1,15 @@
+-- What a call of an entry answers and leaves behind: its number, and the lent bytes of whatever buffers it has.
+use mathlib.Core.Bool.{cond}
+use Prim.Native.Nat.{ℕ}
+use lib.Dec.{eqb}
+
+pub record Answer (A : Type 0) : Type 0 where
+  pub number : ℕ
+  pub left : A
+
+abbrev pub answered : {A : Type 0} → ℕ → A → Answer A
+answered r left = record { number = r; left = left }
+
+-- refused with its number, and everything as it was before; or done, with number 0
+unfoldable pub settled : {A : Type 0} → ℕ → A → A → Answer A
+settled refusal before after = cond (eqb refusal 0) (answered 0 after) (answered refusal before)
