@@ -42,11 +42,10 @@ within {t} {a} {b} n es eh c =
     twice n = omega arith
 
 module _
-  (taps-exact : (p : ℕ → ℕ) (k : ℕ → Float) (n : ℕ) → Bytes p n → GridWeights k n → sumTo (λ j. numerator (k j)) n ≤ 65536 →
+    (taps-exact : (p : ℕ → ℕ) (k : ℕ → Float) (n : ℕ) → Bytes p n → GridWeights k n → sumTo (λ j. numerator (k j)) n ≤ 65536 →
     toByte (taps p k n) ≡ (2 * sumTo (λ j. p j * numerator (k j)) n + 65536) / 131072)
-  (each-on-grid : (ws : List Float) → allOnGrid ws ≡ true → GridWeights (λ j. getD ws j nan) (length ws))
-  (mode : EdgeMode) (weights : List Float) (grid : allOnGrid weights ≡ true) (fits : sum (numerators weights) ≤ 65536) where
-
+    (each-on-grid : (ws : List Float) → allOnGrid ws ≡ true → GridWeights (λ j. getD ws j nan) (length ws))
+    (mode : EdgeMode) (weights : List Float) (grid : allOnGrid weights ≡ true) (fits : sum (numerators weights) ≤ 65536) where
   -- on bytes the convolution in binary32 is the exact one over 65536, rounded to the nearest
   pub convolve-on-grid : (s : ℕ) (p : Line) → ((i : ℕ) → p i ≤ 255) → (x : ℕ) →
       convolve mode weights s p x ≡ (2 * exactConvolve mode (numerators weights) s p x + 65536) / 131072
@@ -56,7 +55,7 @@ module _
       let same = getD-numerators weights in
       let read : ℕ → ℕ = λ j. sample mode s p (x + j) (length weights / 2) in
       let all : sumTo (λ j. numerator (getD weights j nan)) (length weights) ≡ sum (numerators weights) =
-          sumTo-same _ _ (length weights) (λ j l. sym (same j l)) ∙ ap (sumTo (λ j. getD (numerators weights) j 0)) (sym k) ∙ sum-is (numerators weights) in
+      sumTo-same _ _ (length weights) (λ j l. sym (same j l)) ∙ ap (sumTo (λ j. getD (numerators weights) j 0)) (sym k) ∙ sum-is (numerators weights) in
       taps-exact read (λ j. getD weights j nan) (length weights)
       (λ j _. sample-relates mode s p p (x + j) (length weights / 2) (λ a _. a ≤ 255) (omega arith) bytes)
       (each-on-grid weights grid) (omega arith)

@@ -36,9 +36,9 @@ module _ (mode : EdgeMode) (weights : List Float) (s : LevelSize) (z : Sized s) 
       rw (sub-one (suc n))
       (painted-same (s .w) (s .h) _ _
       (λ c x y lc _ _.
-        both-local (double mode) (double-local mode) w h _ _ zw zh
-        (λ u v lu lv.
-          chan-painted w h _ c u v lc lu lv
-          ∙ blur-local (halve mode) (double mode) (convolve mode weights) (halve-local mode) (double-local mode) (convolve-local mode weights)
-          n w h _ _ zw zh (λ a b la lb. chan-painted w h _ c a b lc la lb) u v)
-        x y))
+      both-local (double mode) (double-local mode) w h _ _ zw zh
+      (λ u v lu lv.
+      chan-painted w h _ c u v lc lu lv
+      ∙ blur-local (halve mode) (double mode) (convolve mode weights) (halve-local mode) (double-local mode) (convolve-local mode weights)
+      n w h _ _ zw zh (λ a b la lb. chan-painted w h _ c a b lc la lb) u v)
+      x y))

@@ -1,0 +1,2 @@
+-- Document 01's marked cases, proved of the definitions.
+pub mod Table
