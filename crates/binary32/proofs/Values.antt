@@ -1,0 +1,160 @@
+-- Values that are finite and not below 0, each as the fraction `num` / `den`: their order, their sums and their products.
+use mathlib.Core.Path.{_≡_, refl, sym, ap, _∙_, subst}
+use mathlib.Core.Logic.{_⊎_, inl, inr}
+use mathlib.Core.Bool.{Bool, true, false, not, cond, _&&_, _||_, true≢false}
+use Prim.Native.Nat.{ℕ, _+_, _-_, _*_, _^_, _≤_, _<_}
+use native.Mathlib.Nat.{zero-lt-suc, le-of-lt, le-of-eq, lt-of-not-le, not-le-of-lt, zero-add, zero-mul, mul-one, mul-comm, mul-pos}
+use native.Mathlib.Omega.{arith}
+use borrow.Author.Tests.{ltb-true, ltb-false, le-ltb}
+use lib.Dec.{T, ltb, eqb, eqb→eq, ltb→lt}
+use lib.IntN.{pos}
+use lib.Ieee.{Float, nan, inf, fin, binary32, up, down, below, round, sum, add, mul, ofInt, le, lt}
+use lib.Ieee.Back.{round-whole}
+use lib.Ieee.Exact.{HasValue}
+use lib.Ieee.Fits.{and-l, down-pos}
+use lib.Ieee.Order.{transfer, le-of-values}
+use lib.Ieee.Positive.{num, den, den-pos, value→cross}
+use lib.Ieee.Scale.{round-same}
+use Rattle.binary32.specs.Ranges.{zero32, nonneg}
+use Rattle.binary32.specs.Grid.{Is}
+
+-- finite, with no minus sign
+abbrev pub plain : Float → Bool
+plain nan = false
+plain (inf s) = false
+plain (fin s m e) = not s
+
+pub plain-nonneg : (x : Float) → T (plain x) → T (nonneg x)
+plain-nonneg nan p = absurd p
+plain-nonneg (inf s) p = absurd p
+plain-nonneg (fin true m e) p = absurd p
+plain-nonneg (fin false m e) p = tt
+
+pub plain-of-value : (x : Float) (a c : ℕ) → HasValue x false a c → T (plain x)
+plain-of-value nan a c h = absurd h
+plain-of-value (inf s) a c h = absurd h
+plain-of-value (fin true m e) a c h = absurd (true≢false (h .0))
+plain-of-value (fin false m e) a c h = tt
+
+pub own-value : (x : Float) → T (plain x) → HasValue x false (num x) (den x)
+own-value nan p = absurd p
+own-value (inf s) p = absurd p
+own-value (fin true m e) p = absurd p
+own-value (fin false m e) p = (refl, refl)
+
+-- ---- the order
+-- a value with a minus sign is zero
+pub unsigned : (s : Bool) (m u k : ℕ) → T (not s || eqb m 0) → T s → m * u * k ≡ 0
+unsigned true m u k p t = ap (λ (n : ℕ). n * u * k) (eqb→eq m 0 p) ∙ ap (λ (n : ℕ). n * k) (zero-mul u) ∙ zero-mul k
+unsigned false m u k p t = absurd t
+
+below-is : (s t : Bool) (a b : ℕ) → (T s → a ≡ 0) → (T t → b ≡ 0) → below s a t b ≡ ltb a b
+below-is false false a b f g = refl
+below-is false true a b f g = let z = g tt in sym (le-ltb a b (omega arith))
+below-is true false a b f g = rw (f tt, zero-add)
+below-is true true a b f g = let z = f tt in let y = g tt in le-ltb b a (omega arith) ∙ sym (le-ltb a b (omega arith))
+
+pub lt-is : (x y : Float) → T (nonneg x) → T (nonneg y) → lt x y ≡ ltb (num x * den y) (num y * den x)
+unfolding lt
+lt-is nan y p q = absurd p
+lt-is (inf s) y p q = absurd p
+lt-is (fin s m e) nan p q = absurd q
+lt-is (fin s m e) (inf t) p q = absurd q
+lt-is (fin s m e) (fin t n d) p q = below-is s t (m * up e * down d) (n * up d * down e) (unsigned s m (up e) (down d) p) (unsigned t n (up d) (down e) q)
+
+-- what a test says of values that equal a / c and b / d
+module _ (x y : Float) (a c b d : ℕ) (C : 0 < c) (D : 0 < d) (v : Is x a c) (w : Is y b d) where
+  pub lt-true : lt x y ≡ true → a * d < b * c
+  lt-true h =
+      let l = ltb-true (num x * den y) (num y * den x) (sym (lt-is x y (v .0) (w .0)) ∙ h) in
+      lt-of-not-le (λ (g : b * c ≤ a * d). not-le-of-lt l (transfer (num y) (num x) (den y) (den x) b a d c D C (w .1) (v .1) g))
+
+  pub lt-false : lt x y ≡ false → b * c ≤ a * d
+  lt-false h =
+      transfer b a d c (num y) (num x) (den y) (den x) (den-pos y) (den-pos x) (sym (w .1)) (sym (v .1)) (ltb-false (num x * den y) (num y * den x) (sym (lt-is x y (v .0) (w .0)) ∙ h))
+
+-- the order of two fractions
+abbrev pub Cross : Float → Float → Type 0
+Cross x y = num x * den y ≤ num y * den x
+
+pub cross→le : (x y : Float) → T (plain x) → T (plain y) → Cross x y → T (le x y)
+cross→le x y p q h = le-of-values x y (num x) (den x) (num y) (den y) (den-pos x) (den-pos y) (own-value x p) (own-value y q) h
+
+lt-or-eq : (a b : ℕ) (t : Bool) → T (ltb a b || (eqb a b && t)) → a ≤ b
+lt-or-eq a b t h = go (ltb a b) (ltb→lt a b) h
+  where
+    go : (l : Bool) → (T l → a < b) → T (l || (eqb a b && t)) → a ≤ b
+    go true f h = le-of-lt (f tt)
+    go false f h = le-of-eq (eqb→eq a b (and-l (eqb a b) t h))
+
+pub le→cross : (x y : Float) → T (plain x) → T (plain y) → T (le x y) → Cross x y
+unfolding le
+le→cross nan y p q h = absurd p
+le→cross (inf s) y p q h = absurd p
+le→cross (fin true m e) y p q h = absurd p
+le→cross (fin false m e) nan p q h = absurd q
+le→cross (fin false m e) (inf t) p q h = absurd q
+le→cross (fin false m e) (fin true n d) p q h = absurd q
+le→cross (fin false m e) (fin false n d) p q h = lt-or-eq (m * up e * down d) (n * up d * down e) true h
+
+-- ---- the sum of two, of which one has no minus sign
+sum-is : (s t : Bool) (a b c : ℕ) → (T s → a ≡ 0) → (T t → b ≡ 0) → T (not s) ⊎ T (not t) → sum binary32 s a t b c ≡ round binary32 false (a + b) c
+unfolding sum
+sum-is false false a b c f g o = refl
+sum-is false true a b c f g o = let z = g tt in rw (le-ltb a b (omega arith)) (ap (λ (n : ℕ). round binary32 false n c) (omega arith))
+sum-is true false a b c f g o = go (ltb a b) (ltb-false a b)
+  where
+    go : (l : Bool) → (l ≡ false → b ≤ a) → cond l (round binary32 false (b - a) c) (round binary32 (ltb b a) (a - b) c) ≡ round binary32 false (a + b) c
+    go true k = let z = f tt in ap (λ (n : ℕ). round binary32 false n c) (omega arith)
+    go false k = let z = f tt in let y = k refl in rw (le-ltb b a (omega arith)) (ap (λ (n : ℕ). round binary32 false n c) (omega arith))
+sum-is true true a b c f g (inl o) = absurd o
+sum-is true true a b c f g (inr o) = absurd o
+
+pub add-is : (x y : Float) → T (nonneg x) → T (nonneg y) → T (plain x) ⊎ T (plain y) → add binary32 x y ≡ round binary32 false (num x * den y + num y * den x) (den x * den y)
+unfolding add
+add-is nan y p q o = absurd p
+add-is (inf s) y p q o = absurd p
+add-is (fin s m e) nan p q o = absurd q
+add-is (fin s m e) (inf t) p q o = absurd q
+add-is (fin s m e) (fin t n d) p q o =
+    sum-is s t (m * up e * down d) (n * up d * down e) (down e * down d) (unsigned s m (up e) (down d) p) (unsigned t n (up d) (down e) q) o
+
+-- ---- the product
+zero-one : (s : Bool) → round binary32 s 0 1 ≡ fin s 0 (pos 0)
+unfolding round
+zero-one true = refl
+zero-one false = refl
+
+round-zero : (s : Bool) (a c : ℕ) → 0 < c → a ≡ 0 → round binary32 s a c ≡ fin s 0 (pos 0)
+round-zero s a c C z = round-same binary32 s a c 0 1 C (zero-lt-suc 0) (mul-one a ∙ z ∙ sym (zero-mul c)) ∙ zero-one s
+
+-- the same, but that one may be -0 where the other is +0
+abbrev pub Alike : Float → Float → Type 0
+Alike x y = (x ≡ y) ⊎ ((x ≡ fin true 0 (pos 0)) × (y ≡ zero32))
+
+alike-zero : (a c : ℕ) → 0 < c → a ≡ 0 → Alike (round binary32 true a c) (round binary32 false a c)
+alike-zero a c C z = inr (round-zero true a c C z, round-zero false a c C z)
+
+pub mul-is : (x y : Float) → T (nonneg x) → T (nonneg y) → Alike (mul binary32 x y) (round binary32 false (num x * num y) (den x * den y))
+unfolding mul
+mul-is nan y p q = absurd p
+mul-is (inf s) y p q = absurd p
+mul-is (fin s m e) nan p q = absurd q
+mul-is (fin s m e) (inf t) p q = absurd q
+mul-is (fin false m e) (fin false n d) p q = inl refl
+mul-is (fin true m e) (fin true n d) p q = inl refl
+mul-is (fin true m e) (fin false n d) p q = alike-zero (m * up e * (n * up d)) (down e * down d) (mul-pos (down-pos e) (down-pos d)) (unsigned true m (up e) (n * up d) p tt)
+mul-is (fin false m e) (fin true n d) p q =
+    alike-zero (m * up e * (n * up d)) (down e * down d) (mul-pos (down-pos e) (down-pos d)) (mul-comm (m * up e) (n * up d) ∙ unsigned true n (up d) (m * up e) q tt)
+
+pub alike-is : (x y : Float) (a c : ℕ) → Alike x y → Is y a c → Is x a c
+alike-is x y a c (inl e) h = subst (λ (z : Float). Is z a c) (sym e) h
+alike-is x y a c (inr e) h = subst (λ (z : Float). Is z a c) (sym (e .0)) (tt, subst (λ (z : Float). Is z a c) (e .1) h .1)
+
+pub value→is : (x : Float) (a c : ℕ) → HasValue x false a c → Is x a c
+value→is x a c h = (plain-nonneg x (plain-of-value x a c h), value→cross x a c h)
+
+-- ---- a whole number as a float: what `p as f32` means in a contract
+pub whole-value : (p : ℕ) → p ≤ 2 ^ 24 → HasValue (ofInt binary32 (pos p)) false p 1
+unfolding ofInt
+whole-value p h = round-whole binary32 false p h

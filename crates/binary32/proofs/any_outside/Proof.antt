@@ -1,0 +1,77 @@
+-- `any_outside` meets its contract. The loop's invariant: the values from `i` on decide.
+use mathlib.Core.Path.{_≡_, _∙_, refl, sym}
+use mathlib.Core.Bool.{_||_}
+use mathlib.Core.List.{List}
+use Prim.Native.Nat.{ℕ, _+_, _-_, _≤_}
+use native.Mathlib.Omega.{arith}
+use borrow.Author.Needs.{needs}
+use lib.Ieee.{Float}
+use lib.ListN.{length, drop, drop-of-length-le}
+use Rattle.binary32.specs.Ranges.{anyOutside}
+use Rattle.binary32.proofs.Ranges.{any-step}
+use Rattle.binary32.proofs.any_outside.Statement.{statement}
+use Rattle.binary32.proofs.any_outside.Tie as tie
+use Rattle.binary32.proofs.any_outside.Reads as reads
+use Rattle.binary32.proofs.any_outside.Lts as lts
+use Rattle.binary32.proofs.outside_unit.Reads as outside-unit-reads
+
+abbrev Inv-loop : tie.InvT-loop
+Inv-loop xs i₀ i = (i ≤ length xs) × (anyOutside xs ≡ anyOutside (drop i xs))
+
+abbrev μ-loop : tie.MeasureT-loop
+μ-loop xs i₀ i = length xs - i
+
+loop-holds : tie.Need-loop-holds Inv-loop μ-loop
+loop-holds c = (omega arith, refl)
+
+mul-outside-unit : tie.Need-mul-outside-unit Inv-loop μ-loop
+mul-outside-unit c = omega arith
+
+shared-slice-read-outside-unit : tie.Need-shared-slice-read-outside-unit Inv-loop μ-loop
+shared-slice-read-outside-unit c = omega arith
+
+outside-unit-requires : tie.Need-outside-unit-requires Inv-loop μ-loop
+outside-unit-requires c κs = search needs
+
+-- what the test at `i` and the later values say together
+looked : (c : tie.After-outside-unit Inv-loop μ-loop) →
+    let at = c .before .before .before in
+    let xs = at .before .before .args .xs .now in
+    anyOutside xs ≡ (c .outside-unit .result || anyOutside (drop (at .loop .i + 1) xs))
+looked c =
+    let at = c .before .before .before in
+    at .loop .inv .1 ∙ any-step (at .before .before .args .xs .now) (at .loop .i) (omega arith) ∙ rw (sym (c .outside-unit .ensures))
+
+returns : tie.Need-returns Inv-loop μ-loop
+returns c = sym (looked (c .before) ∙ rw (c .if1 .taken))
+
+add-i : tie.Need-add-i Inv-loop μ-loop
+add-i c = omega arith
+
+loop-less : tie.Need-loop-less Inv-loop μ-loop
+loop-less c = omega arith
+
+loop-again : tie.Need-loop-again Inv-loop μ-loop
+loop-again c = (omega arith, looked (c .before) ∙ rw (c .if1 .left))
+
+returns-2 : tie.Need-returns-2 Inv-loop μ-loop
+unfolding anyOutside
+returns-2 c =
+    let at = c .before in
+    sym (at .loop .inv .1 ∙ rw (drop-of-length-le (at .before .before .args .xs .now) {i = at .loop .i} (omega arith)))
+
+pub any-outside-spec : {M : Type 1} → statement M
+any-outside-spec =
+    tie.close
+    (tie.spec
+    Inv-loop
+    μ-loop
+    loop-holds
+    mul-outside-unit
+    shared-slice-read-outside-unit
+    outside-unit-requires
+    returns
+    add-i
+    loop-less
+    loop-again
+    returns-2)

@@ -1,0 +1,44 @@
+-- The grid of weights: the multiples of 1 / 65536 from 0 to 1.
+use mathlib.Core.Path.{_≡_}
+use mathlib.Core.Bool.{Bool, true, false, not, cond, _&&_, _||_}
+use mathlib.Core.List.{List, [], _∷_}
+use Prim.Native.Nat.{ℕ, _+_, _*_, _/_, _%_}
+use lib.Dec.{T, eqb}
+use lib.Ieee.{Float}
+use lib.Ieee.Positive.{num, den}
+use Rattle.binary32.specs.Ranges.{nonneg, outsideUnit}
+use Rattle.binary32.specs.declared.GridWeight.{GridWeight}
+use Rattle.binary32.specs.declared.GridWeight.the-variants.{Numerator, Off}
+
+-- x equals a / c; minus zero counts as 0
+abbrev pub Is : Float → ℕ → ℕ → Type 0
+Is x a c = T (nonneg x) × (num x * c ≡ a * den x)
+
+-- on the grid: from 0 to 1, and 65536 times it is whole. So x is m / 65536 for a whole m from 0 to 65536 (`grid-of`, `of-grid`)
+unfoldable pub onGrid : Float → Bool
+onGrid x = not (outsideUnit x) && eqb (num x * 65536 % den x) 0
+
+-- that m; 0 where x is off the grid
+unfoldable pub numerator : Float → ℕ
+numerator x = cond (onGrid x) (num x * 65536 / den x) 0
+
+-- what `numerator_of` answers
+unfoldable pub gridWeight : Float → GridWeight
+gridWeight x = cond (onGrid x) (Numerator (numerator x)) Off
+
+-- every weight is on the grid
+unfoldable pub allOnGrid : List Float → Bool
+allOnGrid [] = true
+allOnGrid (x ∷ xs) = onGrid x && allOnGrid xs
+
+unfoldable pub numerators : List Float → List ℕ
+numerators [] = []
+numerators (x ∷ xs) = numerator x ∷ numerators xs
+
+unfoldable pub sum : List ℕ → ℕ
+sum [] = 0
+sum (m ∷ ms) = m + sum ms
+
+-- a weight is not on the grid, or the numerators do not sum to 65536 (refusal 11)
+unfoldable pub offGrid : List Float → Bool
+offGrid ws = not (allOnGrid ws) || not (eqb (sum (numerators ws)) 65536)
