@@ -1,5 +1,5 @@
 -- Laws of the place that a coordinate reads: inside it is the coordinate itself, and it is always one of the line's elements or outside.
-use mathlib.Core.Path.{_≡_, refl, sym, ap, _∙_}
+use mathlib.Core.Path.{_≡_, refl, sym, ap, _∙_, subst}
 use mathlib.Core.Bool.{Bool, true, false, cond}
 use Prim.Native.Nat.{ℕ, _+_, _-_, _*_, _%_, _≤_, _<_}
 use native.Mathlib.Nat.{add-mul, mul-sub, mul-le-mul-left, mod-lt, mod-eq-of-lt, add-mul-mod-self-right}
@@ -48,3 +48,7 @@ below Mirror s c d z =
     below-cond (ltb m s) _ _ s (ltb-true m s)
     (λ t. omega (arith, ltb-false m s t, mod-lt (c + d * (2 * s - 1)) {m = 2 * s} (omega arith)))
 below None s c d z = below-inside Outside Outside s c d tt tt
+
+-- hence an element that was found is below the size
+pub found-below : {a : At} {s i : ℕ} → Below a s → a ≡ Inside i → i < s
+found-below {s = s} b e = subst (λ (p : At). Below p s) e b

@@ -1,5 +1,5 @@
 -- A signed 32-bit coordinate raised by 2^31 is a natural number, and the pair of it and 2^31 stands for the coordinate.
-use mathlib.Core.Path.{_≡_, refl, ap, _∙_}
+use mathlib.Core.Path.{_≡_, refl}
 use Prim.Native.Nat.{ℕ, suc, _+_, _-_, _*_, _<_}
 use native.Mathlib.Omega.{arith}
 use lib.IntN.{ℤ, pos, negsuc, subℕ, _+ℤ_}

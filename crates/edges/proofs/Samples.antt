@@ -1,13 +1,13 @@
 -- Laws of samples: inside a sample is the line's value, and what holds of two lines holds of their samples.
-use mathlib.Core.Path.{_≡_, refl, ap, subst, _∙_}
+use mathlib.Core.Path.{_≡_, refl, ap, _∙_}
 use Prim.Native.Nat.{ℕ, _+_, _-_, _≤_, _<_}
 use native.Mathlib.Omega.{arith}
 use Rattle.picture.specs.Planes.{Line}
 use Rattle.picture.specs.declared.EdgeMode.{EdgeMode}
 use Rattle.edges.specs.declared.At.{At}
 use Rattle.edges.specs.declared.At.the-variants.{Inside, Outside}
-use Rattle.edges.specs.Edges.{place, valueAt, sample, Below}
-use Rattle.edges.proofs.Places.{place-near, below}
+use Rattle.edges.specs.Edges.{place, valueAt, sample}
+use Rattle.edges.proofs.Places.{place-near, below, found-below}
 
 -- at a coordinate inside, a sample is the line's value, whatever the edge rule
 pub sample-near : (mode : EdgeMode) (s : ℕ) (line : Line) (c d i : ℕ) → c ≡ d + i → i < s → sample mode s line c d ≡ line i
@@ -34,5 +34,4 @@ module _ (mode : EdgeMode) (s : ℕ) (p q : Line) (c d : ℕ) where
   -- a sample looks only below the size
   pub sample-local : 0 < s → ((i : ℕ) → i < s → p i ≡ q i) → sample mode s p c d ≡ sample mode s q c d
   unfolding sample
-  sample-local z h =
-      value-relates _≡_ p q (place mode s c d) refl (λ i e. h i (subst (λ (a : At). Below a s) e (below mode s c d z)))
+  sample-local z h = value-relates _≡_ p q (place mode s c d) refl (λ i e. h i (found-below (below mode s c d z) e))

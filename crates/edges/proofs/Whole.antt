@@ -1,20 +1,28 @@
--- The edge rules on integers and on pairs of naturals are one, and document 01's examples of them.
+-- The edge rules on integers and on pairs of naturals are one, and the definition of modulo is the remainder of division downward.
 use mathlib.Core.Path.{_≡_, refl, sym, ap, _∙_}
-use mathlib.Core.List.{List, [], _∷_}
 use mathlib.Core.Bool.{Bool, true, false, cond}
-use Prim.Native.Nat.{ℕ, suc, _+_, _-_, _*_, _/_, _%_, _≤_, _<_}
-use native.Mathlib.Nat.{add-mul, mod-lt, mod-eq-of-lt, div-add-mod', zero-mod}
+use Prim.Native.Nat.{ℕ, zero, suc, _+_, _-_, _*_, _/_, _%_, _<_}
+use native.Mathlib.Nat.{add-mul, suc-mul, mod-lt, div-add-mod'}
 use native.Mathlib.Omega.{arith}
 use lib.Dec.{ltb}
-use lib.IntN.{ℤ, pos, negsuc, subℕ}
+use lib.IntN.{ℤ, pos, negsuc, negℤ, subℕ, _+ℤ_, _*ℤ_}
+use lib.Signed.{shrZ}
 use borrow.Author.Tests.{lt-ltb, le-ltb, ltb-true, ltb-false}
 use Rattle.picture.specs.declared.EdgeMode.{EdgeMode}
 use Rattle.picture.specs.declared.EdgeMode.the-variants.{Duplicate, Wrap, Mirror, None}
 use Rattle.edges.specs.declared.At.{At}
 use Rattle.edges.specs.declared.At.the-variants.{Inside, Outside}
-use Rattle.edges.specs.Edges.{modulo, reflected, place}
+use Rattle.edges.specs.Edges.{modulo, reflected, place, Below}
 use Rattle.edges.specs.Whole.{insideElse, nearer, moduloOf, placeOf, plus, minus}
-use Rattle.edges.proofs.Places.{modulo-is}
+use Rattle.edges.proofs.Places.{modulo-is, below}
+
+-- the integer that a pair stands for, by its sign
+module _ (c d n : ℕ) where
+  pub from-zero : c ≡ d + n → subℕ c d ≡ pos n
+  from-zero e = simp (le-ltb c d (omega arith)) (ap pos (omega arith))
+
+  pub below-zero : d ≡ c + n + 1 → subℕ c d ≡ negsuc n
+  below-zero e = simp (lt-ltb c d (omega arith)) (ap negsuc (omega arith))
 
 -- c - d, by the test that says its sign
 abbrev signed : ℕ → ℕ → Bool → ℤ
@@ -44,36 +52,32 @@ place-is Wrap s c d z = ap Inside (modulo-signed s c d z (ltb c d) refl)
 place-is Mirror s c d z = ap (reflected s) (modulo-signed (2 * s) c d (omega arith) (ltb c d) refl)
 place-is None s c d z = inside-signed (λ _. Outside) s c d (ltb c d)
 
--- the integer that a pair stands for, by its sign
-module _ (c d n : ℕ) where
-  pub from-zero : c ≡ d + n → subℕ c d ≡ pos n
-  from-zero e = simp (le-ltb c d (omega arith)) (ap pos (omega arith))
-
-  pub below-zero : d ≡ c + n + 1 → subℕ c d ≡ negsuc n
-  below-zero e = simp (lt-ltb c d (omega arith)) (ap negsuc (omega arith))
-
 pair-is : (z : ℤ) → subℕ (plus z) (minus z) ≡ z
 pair-is (pos n) = from-zero n 0 n (omega arith)
 pair-is (negsuc n) = below-zero 0 (n + 1) n (omega arith)
 
--- the rule of an integer is the rule of its pair
-pub whole-is : (mode : EdgeMode) (s : ℕ) (z : ℤ) → 0 < s → placeOf mode s z ≡ place mode s (plus z) (minus z)
-whole-is mode s z l = rw (place-is mode s (plus z) (minus z) l, pair-is z)
+module _ (mode : EdgeMode) (s : ℕ) (z : ℤ) (l : 0 < s) where
+  -- the rule of an integer is the rule of its pair
+  pub whole-is : placeOf mode s z ≡ place mode s (plus z) (minus z)
+  whole-is = rw (place-is mode s (plus z) (minus z) l, pair-is z)
 
--- m from s on is reflected
-past : (s m i : ℕ) → s ≤ m → 2 * s - 1 - m ≡ i → reflected s m ≡ Inside i
-past s m i l e = simp (le-ltb m s l, e)
+  -- a place is one of the line's elements, or outside
+  pub whole-below : Below (placeOf mode s z) s
+  whole-below = rw whole-is (below mode s (plus z) (minus z) l)
 
--- Mirror of -1 is 0 and of s is s - 1
-pub mirror-before : (s : ℕ) → 0 < s → placeOf Mirror s (negsuc 0) ≡ Inside 0
-unfolding placeOf
-mirror-before s l = past s _ 0 (omega (arith, zero-mod (2 * s))) (omega (arith, zero-mod (2 * s)))
+sum-neg : (m x : ℕ) → negℤ (pos x) +ℤ pos m ≡ subℕ m x
+sum-neg m zero = sym (from-zero m 0 (0 + m) (omega arith))
+sum-neg m (suc x) = refl
 
-pub mirror-after : (s : ℕ) → 0 < s → placeOf Mirror s (pos s) ≡ Inside (s - 1)
-unfolding placeOf
-mirror-after s l = let e : s % (2 * s) ≡ s = mod-eq-of-lt (omega arith) in past s _ (s - 1) (omega arith) (omega arith)
+-- z modulo n is what is left of z over whole n's, rounded down, ..
+pub modulo-rest : (n : ℕ) (z : ℤ) → 0 < n → shrZ z n *ℤ pos n +ℤ pos (moduloOf n z) ≡ z
+modulo-rest n (pos k) l = ap pos (div-add-mod' k n)
+modulo-rest n (negsuc k) l =
+    let m = n - 1 - k % n in
+    sum-neg m (suc (k / n) * n)
+    ∙ below-zero m (suc (k / n) * n) k (omega (arith, mod-lt k l, div-add-mod' k n, suc-mul (k / n) n))
 
--- for s = 3, Mirror of 5 is 0 and of -4 is 2; Wrap of -4 is 2
-pub three : (placeOf Mirror 3 (pos 5) ∷ placeOf Mirror 3 (negsuc 3) ∷ placeOf Wrap 3 (negsuc 3) ∷ []) ≡ (Inside 0 ∷ Inside 2 ∷ Inside 2 ∷ [])
-unfolding placeOf
-three = refl
+-- .. and 0 to n - 1
+pub modulo-low : (n : ℕ) (z : ℤ) → 0 < n → moduloOf n z < n
+modulo-low n (pos k) l = mod-lt k l
+modulo-low n (negsuc k) l = omega arith

@@ -42,11 +42,11 @@ abbrev pub Below : At → ℕ → Type 0
 Below (Inside i) s = i < s
 Below Outside s = Unit
 
--- the coordinates that are worked out are below this
+-- coordinates are worked out below this, 2^33: each signed 32-bit one, and each pixel's with its taps
 abbrev pub farthest : ℕ
 farthest = 8589934592
 
--- a line with elements and room, and a coordinate that is not too far off
+-- what an edge rule can be worked out for: a line with elements and room, and a coordinate that is not too far off
 pub record Reach (s c d : ℕ) : Type 0 where
   pub s-low : 0 < s
   pub s-high : s ≤ sideRoom

@@ -1,15 +1,11 @@
 -- The pair that is passed stands for the coordinate, and no sum wraps on the way.
 use mathlib.Core.Path.{_∙_, ap}
 use native.Mathlib.Omega.{arith}
-use lib.IntN.{natAbs}
 use Rattle.edges.specs.Whole.{placeOf}
 use Rattle.edges.proofs.Whole.{place-is}
-use Rattle.edges.proofs.Raised.{depth, raised, wide, sum-is, sum-fits, sum-read, raised-high, pair-raised}
+use Rattle.edges.proofs.Raised.{depth, raised, raised-high, pair-raised, wide, sum-is, sum-fits, sum-read}
 use Rattle.edges.proofs.extend_signed.Statement.{statement}
 use Rattle.edges.proofs.extend_signed.Tie as tie
-use Rattle.edges.proofs.extend_signed.Reads as reads
-use Rattle.edges.proofs.extend_signed.Lts as lts
-use Rattle.edges.proofs.extend.Reads as extend-reads
 
 cast-extend : tie.Need-cast-extend
 cast-extend c = wide (c .args .c) (c .fits .c)
@@ -18,17 +14,23 @@ add-extend : tie.Need-add-extend
 add-extend c = rw (sum-is (c .args .c) (c .fits .c)) (sum-fits (c .args .c) (c .fits .c))
 
 cast-extend-2 : tie.Need-cast-extend-2
-cast-extend-2 c = rw (sum-read (c .args .c) (c .fits .c)) (tt, record { fits = omega (arith, raised-high (c .args .c) (c .fits .c)) })
+cast-extend-2 c =
+    let h = raised-high (c .args .c) (c .fits .c) in
+    rw (sum-read (c .args .c) (c .fits .c)) (tt, record { fits = omega arith })
 
 extend-requires : tie.Need-extend-requires
-extend-requires c κs = rw (sum-read (c .args .c) (c .fits .c))
-    (record { s-low = omega arith; s-high = omega arith; c-high = omega (arith, raised-high (c .args .c) (c .fits .c)); d-high = omega arith })
+extend-requires c κs =
+    let h = raised-high (c .args .c) (c .fits .c) in
+    rw (sum-read (c .args .c) (c .fits .c))
+    (record { s-low = omega arith; s-high = omega arith; c-high = omega arith; d-high = omega arith })
 
 returns : tie.Need-returns
 returns c =
     let a = c .before .args in
     let f = c .before .fits .c in
-    rw (c .extend .ensures, sum-read (a .c) f, place-is (a .mode) (a .s) (raised (a .c)) depth (omega arith), pair-raised (a .c) f)
+    rw (sum-read (a .c) f) at (c .extend .ensures)
+    ∙ place-is (a .mode) (a .s) (raised (a .c)) depth (omega arith)
+    ∙ ap (placeOf (a .mode) (a .s)) (pair-raised (a .c) f)
 
 pub extend-signed-spec : {M : Type 1} → statement M
 extend-signed-spec =

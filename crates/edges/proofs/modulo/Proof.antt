@@ -1,19 +1,25 @@
--- The sum is the definition's, and it fits: the line has room, and the coordinate is not too far off.
-use Prim.Native.Nat.{_-_}
+-- The remainder is the definition's, and no sum wraps: the line has room, and the coordinate is not too far off.
+use Prim.Native.Nat.{_-_, _*_, _≤_}
+use native.Mathlib.Nat.{mul-le-mul}
 use native.Mathlib.Omega.{arith}
 use borrow.Author.Needs.{needs}
-use Rattle.edges.proofs.Room.{product-fits}
+use Rattle.picture.specs.Sizes.{sideRoom}
+use Rattle.picture.proofs.Sizes.{room-is}
+use Rattle.edges.specs.Edges.{farthest}
 use Rattle.edges.proofs.modulo.Statement.{statement}
 use Rattle.edges.proofs.modulo.Tie as tie
+
+product-fits : (c : tie.Start) → c .args .d * (c .args .n - 1) ≤ farthest * (2 * sideRoom)
+product-fits c = mul-le-mul {n₂ = farthest} {m₂ = 2 * sideRoom} (omega arith) (omega arith)
 
 sub-result : tie.Need-sub-result
 sub-result c = search needs
 
 mul-result : tie.Need-mul-result
-mul-result c = omega (arith, product-fits (c .args .d) (c .args .n) (omega arith) (omega arith))
+mul-result c = omega (arith, room-is, product-fits c)
 
 add-result : tie.Need-add-result
-add-result c = omega (arith, product-fits (c .args .d) (c .args .n) (omega arith) (omega arith))
+add-result c = omega (arith, room-is, product-fits c)
 
 rem-result : tie.Need-rem-result
 rem-result c = search needs

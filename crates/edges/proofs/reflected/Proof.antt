@@ -16,10 +16,10 @@ sub-t7 : tie.Need-sub-t7
 sub-t7 c = search needs
 
 returns : tie.Need-returns
-returns c = simp (lt-ltb _ _ (c .if1 .taken))
+returns c = let a = c .before .args in simp (lt-ltb (a .m) (a .s) (omega arith))
 
 returns-2 : tie.Need-returns-2
-returns-2 c = simp (le-ltb _ _ (c .if1 .left))
+returns-2 c = let a = c .before .args in simp (le-ltb (a .m) (a .s) (omega arith))
 
 pub reflected-spec : {M : Type 1} → statement M
 reflected-spec = tie.close (tie.spec mul-t5 sub-t6 sub-t7 returns returns-2)
