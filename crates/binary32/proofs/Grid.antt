@@ -52,6 +52,23 @@ grid-of x m l v =
     let o : onGrid x ≡ true = rw (unit-in x (v .0) u, v .1, mul-mod-left m (den x)) in
     (o, numerator-is x o ∙ ap (λ (n : ℕ). n / den x) (v .1) ∙ mul-div-cancel m (den-pos x))
 
+-- ---- what an answer of `numerator_of` says
+pub answered-on : (x : Float) (m : ℕ) → Numerator m ≡ gridWeight x → (onGrid x ≡ true) × (m ≡ numerator x)
+unfolding gridWeight
+answered-on x m h = go (onGrid x) h
+  where
+    go : (b : Bool) → Numerator m ≡ cond b (Numerator (numerator x)) Off → (b ≡ true) × (m ≡ numerator x)
+    go true e = (refl, cc)
+    go false e = let z : _≡_ {A = ℕ} 0 1 = cc in absurd (omega arith)
+
+pub answered-off : (x : Float) → Off ≡ gridWeight x → onGrid x ≡ false
+unfolding gridWeight
+answered-off x h = go (onGrid x) h
+  where
+    go : (b : Bool) → Off ≡ cond b (Numerator (numerator x)) Off → b ≡ false
+    go true e = let z : _≡_ {A = ℕ} 0 1 = cc in absurd (omega arith)
+    go false e = refl
+
 -- ---- what `numerator_of` finds of a weight in range
 -- 65536 x, and its whole part
 abbrev pub over : Float → Float

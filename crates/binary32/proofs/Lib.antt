@@ -7,3 +7,7 @@ pub mod Sums
 pub mod Channels
 pub mod Offsets
 pub mod Grid
+pub mod Rounded
+pub mod Written
+pub mod Taps
+pub mod Kernels

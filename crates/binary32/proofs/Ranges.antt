@@ -1,9 +1,9 @@
 -- Laws of the ranges: what the code's tests say of them, and what a value in range is.
 use mathlib.Core.Path.{_≡_, refl, sym, ap, _∙_}
 use mathlib.Core.Bool.{Bool, true, false, _||_, true≢false, false≢true}
-use mathlib.Core.List.{List, _∷_}
-use Prim.Native.Nat.{ℕ, _+_, _*_, _≤_, _<_}
-use native.Mathlib.Nat.{le-mul-of-pos-right}
+use mathlib.Core.List.{List, [], _∷_}
+use Prim.Native.Nat.{ℕ, zero, suc, _+_, _*_, _≤_, _<_}
+use native.Mathlib.Nat.{not-suc-le-zero, le-of-suc-le-suc, le-mul-of-pos-right}
 use native.Mathlib.Numerals.{add-one}
 use native.Mathlib.Omega.{arith}
 use borrow.Author.Tests.{ltb-false, le-ltb, eq-eqb}
@@ -14,7 +14,7 @@ use lib.Seq.{drop-cons}
 use lib.Ieee.{Float, nan, inf, fin, isNan, lt, eq, ne, up, down}
 use lib.Ieee.Fits.{up-pos, eq→eqb}
 use lib.Ieee.Positive.{num, den}
-use Rattle.binary32.specs.Ranges.{zero32, one32, finite, outsideUnit, anyOutside, nonneg}
+use Rattle.binary32.specs.Ranges.{zero32, one32, finite, outsideUnit, anyOf, nonneg}
 use Rattle.binary32.proofs.Values.{lt-is}
 
 -- ---- finite
@@ -48,7 +48,7 @@ not-below true m e h = eq→eqb (none m (m * up e) (down e) (ltb-false 0 (m * up
     none : (m n d : ℕ) → n * 1 + 0 * 1 * d ≤ 0 → m ≤ n → m ≡ 0
     none m n d h l = omega arith
 
-neither : (a b : Bool) → (a || b) ≡ false → (a ≡ false) × (b ≡ false)
+pub neither : (a b : Bool) → (a || b) ≡ false → (a ≡ false) × (b ≡ false)
 neither true b h = absurd (true≢false h)
 neither false b h = (refl, h)
 
@@ -72,7 +72,13 @@ unit-in (inf s) p h = absurd p
 unit-in (fin s m e) p h =
     rw (lt-is (fin s m e) zero32 p tt, lt-is one32 (fin s m e) tt p, le-ltb (m * up e * 1) (0 * 1 * down e) (omega arith), le-ltb (1 * 1 * down e) (m * up e * 1) (omega arith))
 
--- ---- lists
-pub any-step : (l : List Float) (i : ℕ) → i < length l → anyOutside (drop i l) ≡ (outsideUnit (getD l i nan) || anyOutside (drop (i + 1) l))
-unfolding anyOutside
-any-step l i h = rw (add-one, drop-cons l i nan)
+-- ---- a list
+pub any-step : (f : Float → Bool) (l : List Float) (i : ℕ) → i < length l → anyOf f (drop i l) ≡ (f (getD l i nan) || anyOf f (drop (i + 1) l))
+unfolding anyOf
+any-step f l i h = rw (add-one, drop-cons l i nan)
+
+pub none-of : (f : Float → Bool) (l : List Float) → anyOf f l ≡ false → (j : ℕ) → j < length l → f (getD l j nan) ≡ false
+unfolding anyOf
+none-of f [] h j k = absurd (not-suc-le-zero k)
+none-of f (x ∷ l) h zero k = neither (f x) (anyOf f l) h .0
+none-of f (x ∷ l) h (suc j) k = none-of f l (neither (f x) (anyOf f l) h .1) j (le-of-suc-le-suc k)

@@ -2,7 +2,7 @@
 use mathlib.Core.Path.{_≡_, sym, ap, _∙_, subst}
 use mathlib.Core.Bool.{Bool, true, false, _&&_}
 use Prim.Native.Nat.{ℕ, zero, suc, _+_, _-_, _*_, _/_, _%_, _^_, _≤_, _<_, min}
-use native.Mathlib.Nat.{le-trans, le-of-eq, lt-of-lt-of-le, le-mul-of-pos-right, one-mul, mul-one, mul-comm, mul-assoc, mul-left-comm, mul-right-comm, mul-pos, mul-le-mul-right, mul-lt-mul-of-pos-right, lt-of-mul-lt-mul-right, lt-of-not-le, not-le-of-lt, zero-div, div-lt-iff-lt-mul}
+use native.Mathlib.Nat.{le-trans, le-of-eq, lt-of-lt-of-le, lt-of-le-of-lt, le-mul-of-pos-right, zero-mul, one-mul, mul-one, mul-comm, mul-assoc, mul-left-comm, mul-right-comm, mul-pos, mul-le-mul-right, mul-lt-mul-of-pos-right, lt-of-mul-lt-mul-right, lt-of-not-le, not-le-of-lt, zero-div, div-lt-iff-lt-mul}
 use native.Mathlib.Omega.{arith}
 use lib.Dec.{T, ltb, leb, eqb, eqb→eq, ltb→lt, lt→ltb, leb→le, lit<, lit≤}
 use lib.IntN.{ℤ, pos, negsuc}
@@ -17,17 +17,24 @@ use Rattle.binary32.specs.Ranges.{nonneg}
 use Rattle.binary32.specs.Grid.{Is}
 use Rattle.binary32.proofs.Values.{unsigned, lt-is, mul-is, alike-is, value→is}
 
--- ---- what fits binary32: few digits, and no more than 149 of them after the point
-fits-few : (s : Bool) (m : ℕ) (e : ℤ) → T (fits binary32 (fin s m e)) → (m < 2 ^ 24) × (down e ≤ 2 ^ 149)
+-- ---- what fits binary32: few digits, no more than 149 of them after the point, and below 2 ^ 128
+pub fits-says : (s : Bool) (m : ℕ) (e : ℤ) → T (fits binary32 (fin s m e)) → (m < 2 ^ 24) × (down e ≤ 2 ^ 149) × (m * up e < 2 ^ 128 * down e)
 unfolding fits
-fits-few s zero e h =
-    (lit< tt, le-trans (le-mul-of-pos-right (down e) (up-pos e)) (le-trans (le-of-eq (mul-comm (down e) (up e) ∙ eqb→eq (up e * down e) 1 h)) (lit≤ tt)))
-fits-few s (suc m) e h =
+fits-says s zero e h = (
+  lit< tt,
+  le-trans (le-mul-of-pos-right (down e) (up-pos e)) (le-trans (le-of-eq (mul-comm (down e) (up e) ∙ eqb→eq (up e * down e) 1 h)) (lit≤ tt)),
+  lt-of-le-of-lt (le-of-eq (zero-mul (up e))) (mul-pos (pow-pos 128) (down-pos e)),
+)
+fits-says s (suc m) e h =
     let a = eqb (suc m % 2) 1 in
     let b = ltb (suc m) (2 ^ 24) in
     let c = leb (down e) (2 ^ 149) in
-    let abc = and-l (a && b && c) (ltb (suc m * up e) (2 ^ 128 * down e)) h in
-    (ltb→lt (suc m) (2 ^ 24) (and-r a b (and-l (a && b) c abc)), leb→le (down e) (2 ^ 149) (and-r (a && b) c abc))
+    let d = ltb (suc m * up e) (2 ^ 128 * down e) in
+    let abc = and-l (a && b && c) d h in (
+      ltb→lt (suc m) (2 ^ 24) (and-r a b (and-l (a && b) c abc)),
+      leb→le (down e) (2 ^ 149) (and-r (a && b) c abc),
+      ltb→lt (suc m * up e) (2 ^ 128 * down e) (and-r (a && b && c) d h),
+    )
 
 -- ---- m * 2 ^ e * 2 ^ k, in units of 2 ^ -149: m times a power of two
 shift : ℤ → ℕ → ℕ
@@ -57,7 +64,7 @@ units m (negsuc a) k h =
 pub scaled-value : (s : Bool) (m : ℕ) (e : ℤ) (k : ℕ) → T (fits binary32 (fin s m e)) → m * up e * 2 ^ k < 2 ^ 128 * down e
     → HasValue (round binary32 false (m * up e * 2 ^ k) (down e)) false (m * up e * 2 ^ k) (down e)
 scaled-value s m e k F h =
-    let f = fits-few s m e F in
+    let f = fits-says s m e F in
     let u = units m e k (f .1) in
     let room : m * 2 ^ shift e k * down e < 2 ^ 277 * down e =
     subst (λ (n : ℕ). n < 2 ^ 277 * down e) u (lt-of-lt-of-le (mul-lt-mul-of-pos-right h (pow-pos 149)) (le-of-eq (mul-right-comm (2 ^ 128) (down e) (2 ^ 149)))) in

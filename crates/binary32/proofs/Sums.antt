@@ -3,7 +3,7 @@ use mathlib.Core.Path.{_≡_, refl, sym, ap, _∙_, subst}
 use mathlib.Core.Logic.{inr}
 use mathlib.Core.Bool.{true, false, not, true≢false}
 use Prim.Native.Nat.{ℕ, suc, _+_, _-_, _*_, _/_, _%_, _^_, _≤_, _<_}
-use native.Mathlib.Nat.{zero-lt-suc, le-trans, le-of-eq, le-of-lt, le-antisymm, lt-of-lt-of-le, lt-of-le-of-lt, lt-of-not-le, not-le-of-lt, mul-one, mul-comm, mul-assoc, mul-right-comm, add-mul, mul-pos, mul-le-mul-right, mul-lt-mul-of-pos-right, eq-of-mul-eq-mul-right, le-div-iff-mul-le, div-lt-iff-lt-mul, mul-div-cancel}
+use native.Mathlib.Nat.{zero-lt-suc, le-trans, le-of-eq, le-of-lt, le-antisymm, lt-of-lt-of-le, lt-of-le-of-lt, lt-of-not-le, not-le-of-lt, mul-one, mul-comm, mul-assoc, mul-right-comm, mul-pos, mul-le-mul-right, mul-lt-mul-of-pos-right, eq-of-mul-eq-mul-right, le-div-iff-mul-le, div-lt-iff-lt-mul, mul-div-cancel}
 use native.Mathlib.Omega.{arith}
 use lib.Dec.{T, lit<}
 use lib.Pow.{pow-pos, pow-mono}
@@ -15,11 +15,11 @@ use lib.Ieee.Fits.{down-pos}
 use lib.Ieee.Nearest.{closest, closest-mono, closest-same}
 use lib.Ieee.Order.{drop}
 use lib.Ieee.Positive.{num, den, den-pos, value→cross}
-use lib.Ieee.Scale.{round-same, round-val, grid}
+use lib.Ieee.Scale.{round-val, grid}
 use Rattle.binary32.specs.Ranges.{nonneg}
 use Rattle.binary32.specs.Round.{roundHalfUp}
 use Rattle.binary32.proofs.Halves.{half-up-le, half-up-add, half-up-mean}
-use Rattle.binary32.proofs.Values.{plain-nonneg, plain-of-value, add-is}
+use Rattle.binary32.proofs.Values.{plain-nonneg, plain-of-value, add-at}
 
 -- ---- a fraction from 2 ^ 23 up to 2 ^ 24 rounds to a whole number
 size-is : (n j : ℕ) → 2 ^ j ≤ n → n < 2 ^ suc j → size n ≡ suc j
@@ -67,12 +67,8 @@ bits (fin false m e) q v h k =
 add-whole : (x y : Float) (b : ℕ) → T (nonneg x) → HasValue y false b 1 → add binary32 x y ≡ round binary32 false (num x + b * den x) (den x)
 add-whole x y b p v =
     let q = plain-of-value y b 1 v in
-    add-is x y p (plain-nonneg y q) (inr q)
-    ∙ round-same binary32 false (num x * den y + num y * den x) (den x * den y) (num x + b * den x) (den x) (mul-pos (den-pos x) (den-pos y)) (den-pos x)
-    (crossed (num x) (den x) (num y) (den y) (sym (mul-one (num y)) ∙ value→cross y b 1 v))
-  where
-    crossed : (X D Y E : ℕ) → Y ≡ b * E → (X * E + Y * D) * D ≡ (X + b * D) * (D * E)
-    crossed X D Y E h = rw h (simp (add-mul, mul-assoc, mul-comm))
+    let w : num y * den x ≡ b * den x * den y = ap (λ (n : ℕ). n * den x) (sym (mul-one (num y)) ∙ value→cross y b 1 v) ∙ mul-right-comm b (den y) (den x) in
+    add-at x y (num x) (b * den x) (den x) (den-pos x) (p, refl) (plain-nonneg y q, w) (inr q)
 
 -- the whole number that x + b rounds to
 abbrev sum : Float → ℕ → ℕ

@@ -3,7 +3,7 @@ use mathlib.Core.Path.{_≡_, refl, sym, ap, _∙_, subst}
 use mathlib.Core.Logic.{_⊎_, inl, inr}
 use mathlib.Core.Bool.{Bool, true, false, not, cond, _&&_, _||_, true≢false}
 use Prim.Native.Nat.{ℕ, _+_, _-_, _*_, _^_, _≤_, _<_}
-use native.Mathlib.Nat.{zero-lt-suc, le-of-lt, le-of-eq, lt-of-not-le, not-le-of-lt, zero-add, zero-mul, mul-one, mul-comm, mul-pos}
+use native.Mathlib.Nat.{zero-lt-suc, le-of-lt, le-of-eq, lt-of-not-le, not-le-of-lt, zero-add, zero-mul, mul-one, mul-comm, mul-assoc, mul-right-comm, add-mul, mul-pos}
 use native.Mathlib.Omega.{arith}
 use borrow.Author.Tests.{ltb-true, ltb-false, le-ltb}
 use lib.Dec.{T, ltb, eqb, eqb→eq, ltb→lt}
@@ -119,13 +119,25 @@ add-is (fin s m e) (inf t) p q o = absurd q
 add-is (fin s m e) (fin t n d) p q o =
     sum-is s t (m * up e * down d) (n * up d * down e) (down e * down d) (unsigned s m (up e) (down d) p) (unsigned t n (up d) (down e) q) o
 
+-- by any fractions with one divisor that they equal
+pub add-at : (x y : Float) (a b c : ℕ) → 0 < c → Is x a c → Is y b c → T (plain x) ⊎ T (plain y) → add binary32 x y ≡ round binary32 false (a + b) c
+add-at x y a b c C v w o =
+    add-is x y (v .0) (w .0) o
+    ∙ round-same binary32 false (num x * den y + num y * den x) (den x * den y) (a + b) c (mul-pos (den-pos x) (den-pos y)) C (joined (num x) (den x) (num y) (den y) (v .1) (w .1))
+  where
+    joined : (x dx y dy : ℕ) → x * c ≡ a * dx → y * c ≡ b * dy → (x * dy + y * dx) * c ≡ (a + b) * (dx * dy)
+    joined x dx y dy h k =
+        let p : x * dy * c ≡ a * (dx * dy) = mul-right-comm x dy c ∙ ap (λ (z : ℕ). z * dy) h ∙ mul-assoc a dx dy in
+        let q : y * dx * c ≡ b * (dx * dy) = mul-right-comm y dx c ∙ ap (λ (z : ℕ). z * dx) k ∙ simp (mul-assoc, mul-comm) in
+        add-mul (x * dy) (y * dx) c ∙ (rw (p, q) (sym (add-mul a b (dx * dy))))
+
 -- ---- the product
 zero-one : (s : Bool) → round binary32 s 0 1 ≡ fin s 0 (pos 0)
 unfolding round
 zero-one true = refl
 zero-one false = refl
 
-round-zero : (s : Bool) (a c : ℕ) → 0 < c → a ≡ 0 → round binary32 s a c ≡ fin s 0 (pos 0)
+pub round-zero : (s : Bool) (a c : ℕ) → 0 < c → a ≡ 0 → round binary32 s a c ≡ fin s 0 (pos 0)
 round-zero s a c C z = round-same binary32 s a c 0 1 C (zero-lt-suc 0) (mul-one a ∙ z ∙ sym (zero-mul c)) ∙ zero-one s
 
 -- the same, but that one may be -0 where the other is +0
@@ -150,6 +162,12 @@ mul-is (fin false m e) (fin true n d) p q =
 pub alike-is : (x y : Float) (a c : ℕ) → Alike x y → Is y a c → Is x a c
 alike-is x y a c (inl e) h = subst (λ (z : Float). Is z a c) (sym e) h
 alike-is x y a c (inr e) h = subst (λ (z : Float). Is z a c) (sym (e .0)) (tt, subst (λ (z : Float). Is z a c) (e .1) h .1)
+
+pub add-alike : (x y z : Float) → T (plain x) → Alike y z → add binary32 x y ≡ add binary32 x z
+add-alike x y z p (inl e) = ap (add binary32 x) e
+add-alike x y z p (inr e) =
+    let q = plain-nonneg x p in
+    ap (add binary32 x) (e .0) ∙ add-is x (fin true 0 (pos 0)) q tt (inl p) ∙ sym (add-is x zero32 q tt (inl p)) ∙ ap (add binary32 x) (sym (e .1))
 
 pub value→is : (x : Float) (a c : ℕ) → HasValue x false a c → Is x a c
 value→is x a c h = (plain-nonneg x (plain-of-value x a c h), value→cross x a c h)

@@ -1,12 +1,12 @@
 -- The grid of weights: the multiples of 1 / 65536 from 0 to 1.
 use mathlib.Core.Path.{_≡_}
-use mathlib.Core.Bool.{Bool, true, false, not, cond, _&&_, _||_}
-use mathlib.Core.List.{List, [], _∷_}
+use mathlib.Core.Bool.{Bool, not, cond, _&&_, _||_}
+use mathlib.Core.List.{List, [], _∷_, map}
 use Prim.Native.Nat.{ℕ, _+_, _*_, _/_, _%_}
 use lib.Dec.{T, eqb}
 use lib.Ieee.{Float}
 use lib.Ieee.Positive.{num, den}
-use Rattle.binary32.specs.Ranges.{nonneg, outsideUnit}
+use Rattle.binary32.specs.Ranges.{nonneg, outsideUnit, anyOf}
 use Rattle.binary32.specs.declared.GridWeight.{GridWeight}
 use Rattle.binary32.specs.declared.GridWeight.the-variants.{Numerator, Off}
 
@@ -26,14 +26,12 @@ numerator x = cond (onGrid x) (num x * 65536 / den x) 0
 unfoldable pub gridWeight : Float → GridWeight
 gridWeight x = cond (onGrid x) (Numerator (numerator x)) Off
 
--- every weight is on the grid
+-- every weight is on the grid: none is off it
 unfoldable pub allOnGrid : List Float → Bool
-allOnGrid [] = true
-allOnGrid (x ∷ xs) = onGrid x && allOnGrid xs
+allOnGrid ws = not (anyOf (λ w. not (onGrid w)) ws)
 
-unfoldable pub numerators : List Float → List ℕ
-numerators [] = []
-numerators (x ∷ xs) = numerator x ∷ numerators xs
+abbrev pub numerators : List Float → List ℕ
+numerators ws = map numerator ws
 
 unfoldable pub sum : List ℕ → ℕ
 sum [] = 0

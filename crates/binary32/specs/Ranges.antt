@@ -22,10 +22,14 @@ finite (fin s m e) = true
 unfoldable pub outsideUnit : Float → Bool
 outsideUnit x = isNan x || (lt x zero32 || lt one32 x)
 
--- one of these is outside (refusal 5)
+-- one of the values passes the test
+unfoldable pub anyOf : (Float → Bool) → List Float → Bool
+anyOf f [] = false
+anyOf f (x ∷ xs) = f x || anyOf f xs
+
+-- a weight is NaN, below 0 or above 1 (refusal 5)
 unfoldable pub anyOutside : List Float → Bool
-anyOutside [] = false
-anyOutside (x ∷ xs) = outsideUnit x || anyOutside xs
+anyOutside ws = anyOf outsideUnit ws
 
 -- finite and not below 0; minus zero counts as 0
 abbrev pub nonneg : Float → Bool

@@ -8,7 +8,7 @@ ghost use lib.Ieee.{lt};
 ghost use lib.Ieee.Positive.{num, den};
 ghost use Rattle.binary32.specs.Ranges.{zero32, finite, outsideUnit, anyOutside, nonneg};
 ghost use Rattle.binary32.specs.Round.{top32, roundHalfUp, toByte, heldSize, roundOffset};
-ghost use Rattle.binary32.specs.Grid.{gridWeight};
+ghost use Rattle.binary32.specs.Grid.{gridWeight, offGrid};
 
 // A whole offset: plus - minus, where one of them is 0.
 pub struct Offset {
@@ -129,4 +129,23 @@ pub fn numerator_of(x: f32) -> GridWeight
         return GridWeight::Off;
     }
     GridWeight::Numerator(whole as u32)
+}
+
+// A weight is not on the grid, or the numerators do not sum to 65536. Once the sum is above that, it stays so.
+pub fn off_grid(xs: &[f32]) -> bool
+    ensures { λ r. ⌜ r ≡ offGrid (now (xs .entry)) ⌝ }
+{
+    let mut sum: u32 = 0;
+    let mut i = 0;
+    while i < xs.len() {
+        let GridWeight::Numerator(m) = numerator_of(xs[i]) else {
+            return true;
+        };
+        sum += m;
+        if 65536 < sum {
+            return true;
+        }
+        i += 1;
+    }
+    sum != 65536
 }

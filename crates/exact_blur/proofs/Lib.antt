@@ -2,5 +2,6 @@
 pub mod Sums
 pub mod Stages
 pub mod Passes
-pub mod Numerators
 pub mod Near
+pub mod Graded
+pub mod Apart

@@ -1,6 +1,6 @@
 -- The exact blur: the blur's own passes, edges and level sizes, without any floor or rounding. Each pass leaves its divisor out,
 -- 8 for halving, 4 for doubling and 65536 for the convolution, so that rows and columns together give a whole number over 2^(10n+32).
-use Prim.Native.Nat.{ℕ, _+_, _*_, _/_, _%_, _^_, _≤_}
+use Prim.Native.Nat.{ℕ, _+_, _*_, _/_, _%_, _^_}
 use mathlib.Core.Bool.{cond}
 use mathlib.Core.List.{List}
 use lib.Dec.{eqb}
@@ -36,8 +36,3 @@ exactBlur mode numerators n w h p = blur (exactHalve mode) (exactDouble mode) (e
 -- what the exact blur with n decimations is over
 abbrev pub over : ℕ → ℕ
 over n = 2 ^ (10 * n + 32)
-
--- a channel is within k steps of an exact number: channel times 2^(10n+32) differs from it by at most k times 2^(10n+32)
-pub record Within (k n channel exact : ℕ) : Type 0 where
-  pub low : channel * over n ≤ exact + k * over n
-  pub high : exact ≤ channel * over n + k * over n

@@ -1,2 +1,3 @@
--- The exact blur, and the distance from it in steps.
+-- The exact blur, and how near the blur has to be to it.
 pub mod Exact
+pub mod Demand

@@ -7,7 +7,7 @@ use native.Mathlib.Omega.{arith}
 use borrow.Author.Needs.{needs}
 use lib.Ieee.{Float}
 use lib.ListN.{length, drop, drop-of-length-le}
-use Rattle.binary32.specs.Ranges.{anyOutside}
+use Rattle.binary32.specs.Ranges.{anyOf, outsideUnit, anyOutside}
 use Rattle.binary32.proofs.Ranges.{any-step}
 use Rattle.binary32.proofs.any_outside.Statement.{statement}
 use Rattle.binary32.proofs.any_outside.Tie as tie
@@ -16,7 +16,7 @@ use Rattle.binary32.proofs.any_outside.Lts as lts
 use Rattle.binary32.proofs.outside_unit.Reads as outside-unit-reads
 
 abbrev Inv-loop : tie.InvT-loop
-Inv-loop xs i₀ i = (i ≤ length xs) × (anyOutside xs ≡ anyOutside (drop i xs))
+Inv-loop xs i₀ i = (i ≤ length xs) × (anyOf outsideUnit xs ≡ anyOf outsideUnit (drop i xs))
 
 abbrev μ-loop : tie.MeasureT-loop
 μ-loop xs i₀ i = length xs - i
@@ -37,12 +37,13 @@ outside-unit-requires c κs = search needs
 looked : (c : tie.After-outside-unit Inv-loop μ-loop) →
     let at = c .before .before .before in
     let xs = at .before .before .args .xs .now in
-    anyOutside xs ≡ (c .outside-unit .result || anyOutside (drop (at .loop .i + 1) xs))
+    anyOf outsideUnit xs ≡ (c .outside-unit .result || anyOf outsideUnit (drop (at .loop .i + 1) xs))
 looked c =
     let at = c .before .before .before in
-    at .loop .inv .1 ∙ any-step (at .before .before .args .xs .now) (at .loop .i) (omega arith) ∙ rw (sym (c .outside-unit .ensures))
+    at .loop .inv .1 ∙ any-step outsideUnit (at .before .before .args .xs .now) (at .loop .i) (omega arith) ∙ rw (sym (c .outside-unit .ensures))
 
 returns : tie.Need-returns Inv-loop μ-loop
+unfolding anyOutside
 returns c = sym (looked (c .before) ∙ rw (c .if1 .taken))
 
 add-i : tie.Need-add-i Inv-loop μ-loop
@@ -55,7 +56,7 @@ loop-again : tie.Need-loop-again Inv-loop μ-loop
 loop-again c = (omega arith, looked (c .before) ∙ rw (c .if1 .left))
 
 returns-2 : tie.Need-returns-2 Inv-loop μ-loop
-unfolding anyOutside
+unfolding anyOf anyOutside
 returns-2 c =
     let at = c .before in
     sym (at .loop .inv .1 ∙ rw (drop-of-length-le (at .before .before .args .xs .now) {i = at .loop .i} (omega arith)))
