@@ -1,22 +1,20 @@
 -- Laws of the grid: on it are the values m / 65536 for a whole m from 0 to 65536, and `numerator_of` finds the m.
-use mathlib.Core.Path.{_≡_, refl, sym, ap, _∙_, subst}
-use mathlib.Core.Bool.{Bool, true, false, not, cond, _&&_, true≢false, false≢true}
-use Prim.Native.Nat.{ℕ, _+_, _*_, _/_, _%_, _^_, _≤_, _<_}
-use native.Mathlib.Nat.{zero-lt-suc, le-trans, le-of-eq, mul-one, mul-comm, mul-pos, le-of-suc-le-suc, mul-le-mul-right, lt-of-not-le, not-le-of-lt, mod-lt, div-add-mod', mul-div-cancel, mul-mod-left, div-lt-iff-lt-mul}
+use mathlib.Core.Path.{_≡_, refl, ap, _∙_}
+use mathlib.Core.Bool.{Bool, true, false, not, cond, _&&_, false≢true}
+use Prim.Native.Nat.{ℕ, _*_, _/_, _%_, _≤_, _<_}
+use native.Mathlib.Nat.{zero-lt-suc, le-trans, le-of-suc-le-suc, mul-le-mul-right, div-add-mod', mul-div-cancel, mul-mod-left, div-lt-iff-lt-mul}
 use native.Mathlib.Omega.{arith}
-use borrow.Author.Tests.{ltb-true, ltb-false, eqb-true, eq-eqb, ne-eqb, not-true}
+use borrow.Author.Tests.{eqb-true, eq-eqb, ne-eqb}
 use lib.Dec.{T, eqb, lit≤}
 use lib.IntN.{pos}
-use lib.Ieee.{Float, fin, binary32, fits, mul, lt, ofInt, inFloat, toUnsigned}
-use lib.Ieee.Back.{round-whole}
-use lib.Ieee.Order.{transfer}
+use lib.Ieee.{Float, fin, binary32, fits, mul, lt, ofInt, toUnsigned}
 use lib.Ieee.Positive.{num, den, den-pos}
-use Rattle.binary32.specs.Ranges.{outsideUnit, nonneg}
+use Rattle.binary32.specs.Ranges.{outsideUnit}
 use Rattle.binary32.specs.Grid.{Is, onGrid, numerator, gridWeight}
 use Rattle.binary32.specs.declared.GridWeight.the-variants.{Numerator, Off}
 use Rattle.binary32.proofs.Values.{lt-true, lt-false, value→is, whole-value}
 use Rattle.binary32.proofs.Ranges.{in-unit, unit-in}
-use Rattle.binary32.proofs.Scaled.{scaled, whole-part}
+use Rattle.binary32.proofs.Scaled.{scaled, Cuttable, whole-part}
 
 -- ---- document 01's words: on the grid are the values m / 65536 for a whole m from 0 to 65536
 unit-part : (a c : ℕ) → 0 < c → a ≤ c → a * 65536 / c ≤ 65536
@@ -52,23 +50,6 @@ grid-of x m l v =
     let o : onGrid x ≡ true = rw (unit-in x (v .0) u, v .1, mul-mod-left m (den x)) in
     (o, numerator-is x o ∙ ap (λ (n : ℕ). n / den x) (v .1) ∙ mul-div-cancel m (den-pos x))
 
--- ---- what an answer of `numerator_of` says
-pub answered-on : (x : Float) (m : ℕ) → Numerator m ≡ gridWeight x → (onGrid x ≡ true) × (m ≡ numerator x)
-unfolding gridWeight
-answered-on x m h = go (onGrid x) h
-  where
-    go : (b : Bool) → Numerator m ≡ cond b (Numerator (numerator x)) Off → (b ≡ true) × (m ≡ numerator x)
-    go true e = (refl, cc)
-    go false e = let z : _≡_ {A = ℕ} 0 1 = cc in absurd (omega arith)
-
-pub answered-off : (x : Float) → Off ≡ gridWeight x → onGrid x ≡ false
-unfolding gridWeight
-answered-off x h = go (onGrid x) h
-  where
-    go : (b : Bool) → Off ≡ cond b (Numerator (numerator x)) Off → b ≡ false
-    go true e = let z : _≡_ {A = ℕ} 0 1 = cc in absurd (omega arith)
-    go false e = refl
-
 -- ---- what `numerator_of` finds of a weight in range
 -- 65536 x, and its whole part
 abbrev pub over : Float → Float
@@ -85,7 +66,7 @@ module _ (x : Float) (F : T (fits binary32 x)) (o : outsideUnit x ≡ false) whe
   is-over : Is (over x) (num x * 65536) (den x)
   is-over = let u = in-unit x o in let d = den-pos x in scaled x 16 F (u .0) (omega arith)
 
-  pub part-cut : (T (lt (fin true 1 (pos 0)) (over x)) × T (lt (over x) (fin false 1 (pos 64)))) × (toUnsigned 64 (over x) ≡ part x)
+  pub part-cut : Cuttable (over x) × (toUnsigned 64 (over x) ≡ part x)
   part-cut = let u = in-unit x o in let d = den-pos x in whole-part (over x) (num x * 65536) (den x) is-over d (omega arith)
 
   pub part-le : part x ≤ 65536
@@ -113,3 +94,20 @@ module _ (x : Float) (F : T (fits binary32 x)) (o : outsideUnit x ≡ false) whe
   pub part-all : lt (ofInt binary32 (pos (part x))) (over x) ≡ false → Numerator (part x) ≡ gridWeight x
   unfolding gridWeight
   part-all h = rw (on h, numerator-is x (on h))
+
+-- ---- what an answer of `numerator_of` says
+pub answered-on : (x : Float) (m : ℕ) → Numerator m ≡ gridWeight x → (onGrid x ≡ true) × (m ≡ numerator x)
+unfolding gridWeight
+answered-on x m h = go (onGrid x) h
+  where
+    go : (b : Bool) → Numerator m ≡ cond b (Numerator (numerator x)) Off → (b ≡ true) × (m ≡ numerator x)
+    go true e = (refl, cc)
+    go false e = let z : _≡_ {A = ℕ} 0 1 = cc in absurd (omega arith)
+
+pub answered-off : (x : Float) → Off ≡ gridWeight x → onGrid x ≡ false
+unfolding gridWeight
+answered-off x h = go (onGrid x) h
+  where
+    go : (b : Bool) → Off ≡ cond b (Numerator (numerator x)) Off → b ≡ false
+    go true e = let z : _≡_ {A = ℕ} 0 1 = cc in absurd (omega arith)
+    go false e = refl

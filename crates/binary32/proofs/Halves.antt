@@ -2,7 +2,7 @@
 use mathlib.Core.Path.{_≡_, sym, ap, _∙_, subst}
 use mathlib.Core.Bool.{not}
 use Prim.Native.Nat.{ℕ, suc, _+_, _*_, _/_, _%_, _≤_, _<_, compare, Ordering, Ordering·lt, Ordering·eq, Ordering·gt}
-use native.Mathlib.Nat.{zero-lt-suc, le-of-eq, le-antisymm, mul-one, mul-comm, mul-left-comm, mul-mul-mul-comm, add-mul, mul-pos, mod-lt, div-add-mod', div-div-eq-div-mul, div-eq-of-lt, div-eq-of-lt-le, add-div-right, add-mod-right, add-mul-div-right}
+use native.Mathlib.Nat.{zero-lt-suc, le-of-eq, le-antisymm, mul-comm, mul-left-comm, mul-mul-mul-comm, add-mul, mul-pos, mod-lt, div-add-mod', div-div-eq-div-mul, div-eq-of-lt, div-eq-of-lt-le, add-div-right, add-mod-right, add-mul-div-right}
 use native.Mathlib.Omega.{arith}
 use lib.Arith.{lt-of-le-ne}
 use lib.Dec.{T, isLe, isEq, leb→le, nleb→lt, eqb, eqb→eq, eqb-refl}

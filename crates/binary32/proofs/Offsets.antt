@@ -1,24 +1,23 @@
 -- Laws of whole offsets: one held to a bound is the rounded offset held to it, and what the code's tests say of an offset's size.
-use mathlib.Core.Path.{_≡_, refl, sym, ap, _∙_, subst}
-use mathlib.Core.Logic.{_⊎_, inl, inr}
-use mathlib.Core.Bool.{Bool, true, false, not, _||_, true≢false, false≢true}
-use Prim.Native.Nat.{ℕ, _+_, _*_, _/_, _^_, _≤_, _<_, min}
-use native.Mathlib.Nat.{mul-comm, min-zero}
+use mathlib.Core.Path.{_≡_, refl, sym, ap, _∙_}
+use mathlib.Core.Bool.{true, false, true≢false, false≢true}
+use Prim.Native.Nat.{ℕ, _+_, _*_, _/_, _≤_, _<_, min}
+use native.Mathlib.Nat.{le-trans, mul-comm, min-zero, min-eq-left}
 use native.Mathlib.Omega.{arith}
-use borrow.Author.Tests.{ltb-true, ltb-false, le-ltb, eq-eqb}
+use borrow.Author.Tests.{ltb-true, ltb-false, le-ltb}
 use lib.Arith.{le-zero}
-use lib.Dec.{T, ltb, eqb}
-use lib.IntN.{ℤ, pos}
+use lib.Dec.{T}
+use lib.IntN.{pos}
 use lib.Ieee.{Float, nan, inf, fin, binary32, up, down, fits, neg, mul, lt, ne, isNan, toUnsigned}
-use lib.Ieee.Fits.{up-pos, down-pos}
-use lib.Ieee.Positive.{num, den, den-pos, first-pos}
+use lib.Ieee.Fits.{down-pos}
+use lib.Ieee.Positive.{num, den, den-pos}
 use Rattle.binary32.specs.Ranges.{zero32, finite, nonneg}
 use Rattle.binary32.specs.Round.{halfUp, roundHalfUp, steps, wholeOffset, heldSize, roundOffset}
 use Rattle.binary32.specs.declared.Offset.{Offset}
 use Rattle.binary32.proofs.Halves.{half-up-le, half-up-ge, half-up-cut}
-use Rattle.binary32.proofs.Values.{unsigned, lt-is}
+use Rattle.binary32.proofs.Values.{on-nonneg, unsigned, lt-is}
 use Rattle.binary32.proofs.Ranges.{not-below, ne-self}
-use Rattle.binary32.proofs.Scaled.{scaled, whole-part}
+use Rattle.binary32.proofs.Scaled.{scaled, Cuttable, whole-part}
 
 -- an offset held to at most the bound either way
 abbrev pub held : ℕ → Offset → Offset
@@ -40,25 +39,20 @@ below (inf true) h l = absurd (true≢false h)
 below (inf false) h l = absurd (false≢true l)
 below (fin s m e) h l =
     let p = not-below s m e h in
-    (p, under (m * up e) (down e) (ltb-true (m * up e * 1) (4294967296 * down e) (sym (lt-is (fin s m e) (fin false 1 (pos 32)) p tt) ∙ l)))
-  where
-    under : (x d : ℕ) → x * 1 < 4294967296 * d → x < 4294967296 * d
-    under x d h = omega arith
+    (p, omega (arith, ltb-true (m * up e * 1) (4294967296 * down e) (sym (lt-is (fin s m e) (fin false 1 (pos 32)) p tt) ∙ l)))
 
 size-of : (bound : ℕ) (x : Float) → T (nonneg x) → heldSize bound x ≡ min bound (roundHalfUp x)
 unfolding heldSize
-size-of bound nan p = absurd p
-size-of bound (inf s) p = absurd p
-size-of bound (fin s m e) p = refl
+size-of bound = on-nonneg (λ x. heldSize bound x ≡ min bound (roundHalfUp x)) (λ s m e p. refl)
 
 module _ (x : Float) (F : T (fits binary32 x)) (h : lt x zero32 ≡ false) (l : lt x (fin false 1 (pos 32)) ≡ true) where
   abbrev double : Float
   double = mul binary32 x (fin false 1 (pos 1))
 
-  part : (T (lt (fin true 1 (pos 0)) double) × T (lt double (fin false 1 (pos 64)))) × (toUnsigned 64 double ≡ num x * 2 / den x)
+  part : Cuttable double × (toUnsigned 64 double ≡ num x * 2 / den x)
   part = let b = below x h l .1 in whole-part double (num x * 2) (den x) (scaled x 1 F (below x h l .0) (omega arith)) (den-pos x) (omega arith)
 
-  pub cut-asks : T (lt (fin true 1 (pos 0)) double) × T (lt double (fin false 1 (pos 64)))
+  pub cut-asks : Cuttable double
   cut-asks = part .0
 
   pub cut-gives : (bound : ℕ) → (toUnsigned 64 double ≤ 8589934592) × (min bound ((toUnsigned 64 double + 1) / 2) ≡ heldSize bound x)
@@ -77,13 +71,8 @@ beyond bound (inf true) b h l n = absurd (true≢false h)
 beyond bound (inf false) b h l n = refl
 beyond bound (fin s m e) b h l n =
     let f = ltb-false (m * up e * 1) (4294967296 * down e) (sym (lt-is (fin s m e) (fin false 1 (pos 32)) (not-below s m e h) tt) ∙ l) in
-    least bound (roundHalfUp (fin s m e)) b (half-ge (m * up e) (down e) (down-pos e) f)
-  where
-    least : (b n : ℕ) → b ≤ 4294967296 → 4294967296 ≤ n → b ≡ min b n
-    least b n h l = omega arith
-
-    half-ge : (a c : ℕ) → 0 < c → 4294967296 * c ≤ a * 1 → 4294967296 ≤ halfUp a c
-    half-ge a c C h = half-up-ge a c 4294967296 C (omega arith)
+    let g = half-up-ge (m * up e) (down e) 4294967296 (down-pos e) (omega arith) in
+    sym (min-eq-left (le-trans b g))
 
 -- ---- the two signs
 pub forward : (bound : ℕ) (x : Float) → lt x zero32 ≡ false → steps false (heldSize bound x) ≡ roundOffset bound x

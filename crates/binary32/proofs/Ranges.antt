@@ -1,5 +1,5 @@
 -- Laws of the ranges: what the code's tests say of them, and what a value in range is.
-use mathlib.Core.Path.{_≡_, refl, sym, ap, _∙_}
+use mathlib.Core.Path.{_≡_, refl, sym, _∙_}
 use mathlib.Core.Bool.{Bool, true, false, _||_, true≢false, false≢true}
 use mathlib.Core.List.{List, [], _∷_}
 use Prim.Native.Nat.{ℕ, zero, suc, _+_, _*_, _≤_, _<_}
@@ -11,11 +11,11 @@ use lib.Dec.{T}
 use lib.IntN.{ℤ}
 use lib.ListN.{length, drop, getD}
 use lib.Seq.{drop-cons}
-use lib.Ieee.{Float, nan, inf, fin, isNan, lt, eq, ne, up, down}
+use lib.Ieee.{Float, nan, inf, fin, isNan, lt, ne, up, down}
 use lib.Ieee.Fits.{up-pos, eq→eqb}
 use lib.Ieee.Positive.{num, den}
 use Rattle.binary32.specs.Ranges.{zero32, one32, finite, outsideUnit, anyOf, nonneg}
-use Rattle.binary32.proofs.Values.{lt-is}
+use Rattle.binary32.proofs.Values.{on-nonneg, lt-is}
 
 -- ---- finite
 pub below-top : (x : Float) → lt x (inf false) ≡ true → lt (inf true) x ≡ finite x
@@ -43,10 +43,7 @@ ne-self (fin false m e) = rw (eq-eqb (m * up e * down e) (m * up e * down e) ref
 pub not-below : (s : Bool) (m : ℕ) (e : ℤ) → lt (fin s m e) zero32 ≡ false → T (nonneg (fin s m e))
 unfolding lt
 not-below false m e h = tt
-not-below true m e h = eq→eqb (none m (m * up e) (down e) (ltb-false 0 (m * up e * 1 + 0 * 1 * down e) h) (le-mul-of-pos-right m (up-pos e)))
-  where
-    none : (m n d : ℕ) → n * 1 + 0 * 1 * d ≤ 0 → m ≤ n → m ≡ 0
-    none m n d h l = omega arith
+not-below true m e h = eq→eqb {a = m} {b = 0} (omega (arith, ltb-false 0 (m * up e * 1 + 0 * 1 * down e) h, le-mul-of-pos-right m (up-pos e)))
 
 pub neither : (a b : Bool) → (a || b) ≡ false → (a ≡ false) × (b ≡ false)
 neither true b h = absurd (true≢false h)
@@ -60,17 +57,13 @@ in-unit (inf false) h = absurd (true≢false h)
 in-unit (fin s m e) h =
     let n = neither (lt (fin s m e) zero32) (lt one32 (fin s m e)) h in
     let p = not-below s m e (n .0) in
-    (p, at-most (m * up e) (down e) (ltb-false (1 * 1 * down e) (m * up e * 1) (sym (lt-is one32 (fin s m e) tt p) ∙ n .1)))
-  where
-    at-most : (x d : ℕ) → x * 1 ≤ 1 * 1 * d → x ≤ d
-    at-most x d h = omega arith
+    (p, omega (arith, ltb-false (1 * 1 * down e) (m * up e * 1) (sym (lt-is one32 (fin s m e) tt p) ∙ n .1)))
 
 pub unit-in : (x : Float) → T (nonneg x) → num x ≤ den x → outsideUnit x ≡ false
 unfolding outsideUnit isNan
-unit-in nan p h = absurd p
-unit-in (inf s) p h = absurd p
-unit-in (fin s m e) p h =
-    rw (lt-is (fin s m e) zero32 p tt, lt-is one32 (fin s m e) tt p, le-ltb (m * up e * 1) (0 * 1 * down e) (omega arith), le-ltb (1 * 1 * down e) (m * up e * 1) (omega arith))
+unit-in =
+    on-nonneg (λ x. num x ≤ den x → outsideUnit x ≡ false)
+    (λ s m e p h. rw (lt-is (fin s m e) zero32 p tt, lt-is one32 (fin s m e) tt p, le-ltb (m * up e * 1) (0 * 1 * down e) (omega arith), le-ltb (1 * 1 * down e) (m * up e * 1) (omega arith)))
 
 -- ---- a list
 pub any-step : (f : Float → Bool) (l : List Float) (i : ℕ) → i < length l → anyOf f (drop i l) ≡ (f (getD l i nan) || anyOf f (drop (i + 1) l))

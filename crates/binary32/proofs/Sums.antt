@@ -1,7 +1,7 @@
 -- A sum of an x from 0 to 255 with 2 ^ 23, or one more, is whole: the nearest whole number, a tie going to the even one. Its bits tell it.
 use mathlib.Core.Path.{_≡_, refl, sym, ap, _∙_, subst}
 use mathlib.Core.Logic.{inr}
-use mathlib.Core.Bool.{true, false, not, true≢false}
+use mathlib.Core.Bool.{false, not}
 use Prim.Native.Nat.{ℕ, suc, _+_, _-_, _*_, _/_, _%_, _^_, _≤_, _<_}
 use native.Mathlib.Nat.{zero-lt-suc, le-trans, le-of-eq, le-of-lt, le-antisymm, lt-of-lt-of-le, lt-of-le-of-lt, lt-of-not-le, not-le-of-lt, mul-one, mul-comm, mul-assoc, mul-right-comm, mul-pos, mul-le-mul-right, mul-lt-mul-of-pos-right, eq-of-mul-eq-mul-right, le-div-iff-mul-le, div-lt-iff-lt-mul, mul-div-cancel}
 use native.Mathlib.Omega.{arith}
@@ -11,7 +11,6 @@ use lib.IntN.{pos}
 use lib.Ieee.{Float, nan, inf, fin, binary32, up, down, size, round, add, toBits, isNan}
 use lib.Ieee.Digits.{size-lt, size-le}
 use lib.Ieee.Exact.{HasValue}
-use lib.Ieee.Fits.{down-pos}
 use lib.Ieee.Nearest.{closest, closest-mono, closest-same}
 use lib.Ieee.Order.{drop}
 use lib.Ieee.Positive.{num, den, den-pos, value→cross}
@@ -20,6 +19,7 @@ use Rattle.binary32.specs.Ranges.{nonneg}
 use Rattle.binary32.specs.Round.{roundHalfUp}
 use Rattle.binary32.proofs.Halves.{half-up-le, half-up-add, half-up-mean}
 use Rattle.binary32.proofs.Values.{plain-nonneg, plain-of-value, add-at}
+use Rattle.binary32.proofs.Written.{plain-told, bitsOf, bits-are}
 
 -- ---- a fraction from 2 ^ 23 up to 2 ^ 24 rounds to a whole number
 size-is : (n j : ℕ) → 2 ^ j ≤ n → n < 2 ^ suc j → size n ≡ suc j
@@ -50,18 +50,15 @@ module _ (a c : ℕ) (C : 0 < c) (h : 2 ^ 23 * c ≤ a) (k : a < 2 ^ 24 * c) whe
           (v .0, mul-one (m * up e) ∙ eq-of-mul-eq-mul-right (2 ^ 149) (pow-pos 149) (m * up e) (closest a c * down e) (v .1 ∙ mul-right-comm (closest a c) (2 ^ 149) (down e)))
 
 -- ---- the bits of a whole number from 2 ^ 23 up to 2 ^ 24
-bits : (x : Float) (q : ℕ) → HasValue x false q 1 → 2 ^ 23 ≤ q → q < 2 ^ 24 → T (not (isNan x)) × (toBits binary32 x ≡ 149 * 2 ^ 23 + q)
-unfolding isNan toBits
-bits nan q v h k = absurd v
-bits (inf t) q v h k = absurd v
-bits (fin true m e) q v h k = absurd (true≢false (v .0))
-bits (fin false m e) q v h k =
-    let n = m * up e * 2 ^ 149 / down e in
-    let N : n ≡ q * 2 ^ 149 = ap (λ (z : ℕ). z * 2 ^ 149 / down e) (sym (mul-one (m * up e)) ∙ v .1)
-    ∙ ap (λ (z : ℕ). z / down e) (mul-right-comm q (down e) (2 ^ 149)) ∙ mul-div-cancel (q * 2 ^ 149) (down-pos e) in
-    let K : size n - 24 ≡ 149 = ap (λ (z : ℕ). size z - 24) N ∙ ap (λ (z : ℕ). z - 24) (size-is (q * 2 ^ 149) 172 (mul-le-mul-right (2 ^ 149) h) (mul-lt-mul-of-pos-right k (pow-pos 149))) in
-    let Q : n / 2 ^ 149 ≡ q = ap (λ (z : ℕ). z / 2 ^ 149) N ∙ mul-div-cancel q (pow-pos 149) in
-    (tt, ap (λ (z : ℕ). 0 + z * 2 ^ 23 + n / 2 ^ z) K ∙ ap (λ (z : ℕ). 149 * 2 ^ 23 + z) Q)
+whole-bits : (x : Float) (q : ℕ) → HasValue x false q 1 → 2 ^ 23 ≤ q → q < 2 ^ 24 → toBits binary32 x ≡ 149 * 2 ^ 23 + q
+whole-bits x q v h k =
+    let units : num x * 2 ^ 149 / den x ≡ q * 2 ^ 149 =
+    ap (λ (n : ℕ). n / den x) (ap (λ (n : ℕ). n * 2 ^ 149) (sym (mul-one (num x)) ∙ value→cross x q 1 v) ∙ mul-right-comm q (den x) (2 ^ 149)) ∙ mul-div-cancel (q * 2 ^ 149) (den-pos x) in
+    let drop : size (q * 2 ^ 149) - 24 ≡ 149 = ap (λ (n : ℕ). n - 24) (size-is (q * 2 ^ 149) 172 (mul-le-mul-right (2 ^ 149) h) (mul-lt-mul-of-pos-right k (pow-pos 149))) in
+    bits-are x (plain-of-value x q 1 v)
+    ∙ ap bitsOf units
+    ∙ ap (λ (n : ℕ). n * 2 ^ 23 + q * 2 ^ 149 / 2 ^ n) drop
+    ∙ ap (λ (n : ℕ). 149 * 2 ^ 23 + n) (mul-div-cancel q (pow-pos 149))
 
 -- ---- x + y for a whole y
 add-whole : (x y : Float) (b : ℕ) → T (nonneg x) → HasValue y false b 1 → add binary32 x y ≡ round binary32 false (num x + b * den x) (den x)
@@ -76,8 +73,8 @@ sum x b = closest (num x + b * den x) (den x)
 
 -- z is that number, by its bits
 record Reads (z : Float) (q : ℕ) : Type 0 where
-  no-nan : T (not (isNan z))
-  bits-are : toBits binary32 z ≡ 1249902592 + q
+  told : T (not (isNan z))
+  bits : toBits binary32 z ≡ 1249902592 + q
   small : q ≤ 8388864
 
 sum-bits : (x y : Float) (b : ℕ) → T (nonneg x) → num x ≤ 255 * den x → HasValue y false b 1 → 8388608 ≤ b → b ≤ 8388609 → Reads (add binary32 x y) (sum x b)
@@ -89,16 +86,21 @@ sum-bits x y b p m v l h =
     let low : 8388608 ≤ sum x b = closest-mono 8388608 1 (num x + b * D) D (zero-lt-suc 0) d (omega arith) in
     let high : sum x b ≤ 8388864 = closest-mono (num x + b * D) D 8388864 1 d (zero-lt-suc 0) (omega arith) in
     let w : HasValue (add binary32 x y) false (sum x b) 1 = rw (add-whole x y b p v) (whole-rounded (num x + b * D) D d (omega arith) (omega arith)) in
-    let r = bits (add binary32 x y) (sum x b) w low (omega arith) in
-    record { no-nan = r .0; bits-are = r .1; small = high }
+    record { told = plain-told (add binary32 x y) (plain-of-value (add binary32 x y) (sum x b) 1 w); bits = whole-bits (add binary32 x y) (sum x b) w low (omega arith); small = high }
 
--- ---- the two sums of `nearest`
+-- ---- the two sums of `nearest`, with 8388608.0 and 8388609.0
+abbrev pub even32 : Float
+even32 = fin false 1 (pos 23)
+
+abbrev pub odd32 : Float
+odd32 = fin false 8388609 (pos 0)
+
 module _ (x : Float) (p : T (nonneg x)) (m : num x ≤ 255 * den x) where
-  first : Reads (add binary32 x (fin false 1 (pos 23))) (sum x 8388608)
-  first = sum-bits x (fin false 1 (pos 23)) 8388608 p m (refl, refl) (omega arith) (omega arith)
+  first : Reads (add binary32 x even32) (sum x 8388608)
+  first = sum-bits x even32 8388608 p m (refl, refl) (omega arith) (omega arith)
 
-  second : Reads (add binary32 x (fin false 8388609 (pos 0))) (sum x 8388609)
-  second = sum-bits x (fin false 8388609 (pos 0)) 8388609 p m (refl, refl) (omega arith) (omega arith)
+  second : Reads (add binary32 x odd32) (sum x 8388609)
+  second = sum-bits x odd32 8388609 p m (refl, refl) (omega arith) (omega arith)
 
   mean : (sum x 8388608 + sum x 8388609) / 2 ≡ roundHalfUp x + 8388608
   unfolding roundHalfUp
@@ -110,15 +112,15 @@ module _ (x : Float) (p : T (nonneg x)) (m : num x ≤ 255 * den x) where
       onward : (X D : ℕ) → X + 8388609 * D ≡ X + 8388608 * D + D
       onward X D = omega arith
 
-  pub first-told : T (not (isNan (add binary32 x (fin false 1 (pos 23)))))
-  first-told = first .no-nan
+  pub first-told : T (not (isNan (add binary32 x even32)))
+  first-told = first .told
 
-  pub second-told : T (not (isNan (add binary32 x (fin false 8388609 (pos 0)))))
-  second-told = second .no-nan
+  pub second-told : T (not (isNan (add binary32 x odd32)))
+  second-told = second .told
 
-  pub sums-fit : toBits binary32 (add binary32 x (fin false 1 (pos 23))) + toBits binary32 (add binary32 x (fin false 8388609 (pos 0))) < 4294967296
+  pub sums-fit : toBits binary32 (add binary32 x even32) + toBits binary32 (add binary32 x odd32) < 4294967296
   sums-fit = omega (arith, first, second)
 
-  pub sums-round : (toBits binary32 (add binary32 x (fin false 1 (pos 23))) + toBits binary32 (add binary32 x (fin false 8388609 (pos 0)))) / 2 % 256 ≡ roundHalfUp x
+  pub sums-round : (toBits binary32 (add binary32 x even32) + toBits binary32 (add binary32 x odd32)) / 2 % 256 ≡ roundHalfUp x
   unfolding roundHalfUp
   sums-round = omega (arith, first, second, mean, half-up-le (num x) (den x) 255 (den-pos x) m)

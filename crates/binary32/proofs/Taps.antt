@@ -3,7 +3,7 @@ use mathlib.Core.Path.{_≡_, refl, sym, ap, _∙_, subst}
 use mathlib.Core.Logic.{inl}
 use mathlib.Core.Bool.{true, false}
 use Prim.Native.Nat.{ℕ, zero, suc, _+_, _*_, _/_, _^_, _≤_, _<_}
-use native.Mathlib.Nat.{zero-lt-suc, le-refl, le-suc, le-trans, le-of-eq, zero-mul, mul-one, mul-comm, mul-assoc, mul-left-comm, add-mul, mul-pos, mul-le-mul, mul-le-mul-right, add-le-add}
+use native.Mathlib.Nat.{zero-lt-suc, le-refl, le-suc, le-trans, zero-mul, mul-one, mul-comm, mul-assoc, mul-left-comm, add-mul, mul-pos, mul-le-mul, mul-le-mul-right}
 use native.Mathlib.Numerals.{add-one}
 use native.Mathlib.Omega.{arith}
 use lib.Dec.{T, lit≤}
@@ -15,8 +15,8 @@ use lib.Ieee.Order.{round-mono}
 use lib.Ieee.Positive.{num, den, den-pos, value→cross}
 use lib.Ieee.Scale.{round-same}
 use Rattle.binary32.specs.Ranges.{zero32, outsideUnit, nonneg}
-use Rattle.binary32.specs.Round.{toByte, roundHalfUp}
-use Rattle.binary32.specs.Grid.{Is, onGrid, numerator}
+use Rattle.binary32.specs.Round.{toByte}
+use Rattle.binary32.specs.Grid.{onGrid, numerator}
 use Rattle.binary32.specs.Taps.{tap, taps, sumTo, Bytes, Weights, GridWeights}
 use Rattle.binary32.proofs.Halves.{half-up-le}
 use Rattle.binary32.proofs.Values.{plain, plain-nonneg, plain-of-value, Cross, cross→le, le→cross, add-is, add-at, round-zero, Alike, mul-is, add-alike, value→is, whole-value}
@@ -63,9 +63,9 @@ tap-sum acc p k a h w =
 -- ---- it is finite, with no minus sign, and at most 255 for each tap
 sum-le : (x dx y dy n m : ℕ) → x ≤ n * dx → y ≤ m * dy → x * dy + y * dx ≤ (n + m) * (dx * dy)
 sum-le x dx y dy n m h k =
-    let a : x * dy ≤ n * (dx * dy) = le-trans (mul-le-mul-right dy h) (le-of-eq (mul-assoc n dx dy)) in
-    let b : y * dx ≤ m * (dx * dy) = le-trans (mul-le-mul-right dx k) (le-of-eq (simp (mul-assoc, mul-comm, mul-left-comm))) in
-    le-trans (add-le-add a b) (le-of-eq (sym (add-mul n m (dx * dy))))
+    let a : x * dy ≤ n * (dx * dy) = rw mul-assoc at (mul-le-mul-right dy h) in
+    let b : y * dx ≤ m * (dx * dy) = rw (mul-assoc, mul-comm dy dx) at (mul-le-mul-right dx k) in
+    omega (arith, add-mul n m (dx * dy))
 
 tap-le : (acc : Float) (p : ℕ) (k : Float) (n : ℕ) → AtMost acc n → p ≤ 255 → outsideUnit k ≡ false → n + 255 ≤ 2 ^ 24 → AtMost (add binary32 acc (tap p k)) (n + 255)
 tap-le acc p k n A h w N =
@@ -86,12 +86,19 @@ taps-bounded p k (suc n) b w N =
     next : (n : ℕ) → 255 * n + 255 ≡ 255 * suc n
     next n = omega arith
 
+-- so `round_channel` takes it
+pub taps-nonneg : (p : ℕ → ℕ) (k : ℕ → Float) (n : ℕ) → Bytes p n → Weights k n → 255 * n ≤ 2 ^ 24 → T (nonneg (taps p k n))
+taps-nonneg p k n b w N = plain-nonneg (taps p k n) (taps-bounded p k n b w N .0)
+
 -- ---- it grows with the samples
+side : (x d x' d' u u' : ℕ) → x * d' ≤ x' * d → x * u * (d' * u') ≤ x' * u' * (d * u)
+side x d x' d' u u' h = simp (mul-assoc, mul-comm, mul-left-comm) (simp (mul-assoc, mul-comm) at (mul-le-mul-right (u * u') h))
+
 sum-mono : (x dx y dy x' dx' y' dy' : ℕ) → x * dx' ≤ x' * dx → y * dy' ≤ y' * dy → (x * dy + y * dx) * (dx' * dy') ≤ (x' * dy' + y' * dx') * (dx * dy)
 sum-mono x dx y dy x' dx' y' dy' h k =
-    let a : x * dy * (dx' * dy') ≤ x' * dy' * (dx * dy) = simp (mul-assoc, mul-comm, mul-left-comm) (simp (mul-assoc, mul-comm, mul-left-comm) at (mul-le-mul-right (dy * dy') h)) in
-    let b : y * dx * (dx' * dy') ≤ y' * dx' * (dx * dy) = simp (mul-assoc, mul-comm, mul-left-comm) (simp (mul-assoc, mul-comm, mul-left-comm) at (mul-le-mul-right (dx * dx') k)) in
-    le-trans (le-of-eq (add-mul (x * dy) (y * dx) (dx' * dy'))) (le-trans (add-le-add a b) (le-of-eq (sym (add-mul (x' * dy') (y' * dx') (dx * dy)))))
+    let a = side x dx x' dx' dy dy' h in
+    let b : y * dx * (dx' * dy') ≤ y' * dx' * (dx * dy) = rw (mul-comm dx dy, mul-comm dx' dy') (side y dy y' dy' dx dx' k) in
+    omega (arith, add-mul (x * dy) (y * dx) (dx' * dy'), add-mul (x' * dy') (y' * dx') (dx * dy))
 
 tap-mono : (x y : Float) (p q : ℕ) (k : Float) (n : ℕ) → AtMost x n → AtMost y n → Cross x y → p ≤ q → q ≤ 255 → outsideUnit k ≡ false → n + 255 ≤ 2 ^ 24
     → Cross (add binary32 x (tap p k)) (add binary32 y (tap q k))
@@ -104,11 +111,15 @@ tap-mono x y p q k n A B c l h w N =
     (round-mono binary32 (num x * den u + num u * den x) (den x * den u) (num y * den v + num v * den y) (den y * den v) (mul-pos (den-pos x) (den-pos u)) (mul-pos (den-pos y) (den-pos v))
     (sum-mono (num x) (den x) (num u) (den u) (num y) (den y) (num v) (den v) c (part-mono p q k l h w))))
 
+-- no sample of p is more than that of q
+abbrev pub Under : (ℕ → ℕ) → (ℕ → ℕ) → ℕ → Type 0
+Under p q n = (j : ℕ) → j < n → p j ≤ q j
+
 module _ (p q : ℕ → ℕ) (k : ℕ → Float) where
-  lower : (n : ℕ) → Bytes q n → ((j : ℕ) → j < n → p j ≤ q j) → Bytes p n
+  lower : (n : ℕ) → Bytes q n → Under p q n → Bytes p n
   lower n b l j h = le-trans (l j h) (b j h)
 
-  taps-cross : (n : ℕ) → Bytes q n → Weights k n → ((j : ℕ) → j < n → p j ≤ q j) → 255 * n ≤ 2 ^ 24 → Cross (taps p k n) (taps q k n)
+  taps-cross : (n : ℕ) → Bytes q n → Weights k n → Under p q n → 255 * n ≤ 2 ^ 24 → Cross (taps p k n) (taps q k n)
   unfolding taps
   taps-cross zero b w l N = le-refl 0
   taps-cross (suc n) b w l N =
@@ -116,13 +127,13 @@ module _ (p q : ℕ → ℕ) (k : ℕ → Float) where
       let M : 255 * n ≤ 2 ^ 24 = omega arith in
       let B : Bytes q n = fewer n b in
       let W : Weights k n = fewer n w in
-      let L : (j : ℕ) → j < n → p j ≤ q j = fewer n l in
+      let L : Under p q n = fewer n l in
       tap-mono (taps p k n) (taps q k n) (p n) (q n) (k n) (255 * n) (taps-bounded p k n (lower n B L) W M) (taps-bounded q k n B W M) (taps-cross n B W L M) (l n m) (b n m) (w n m) (omega arith)
 
-  pub taps-mono : (n : ℕ) → Bytes q n → Weights k n → ((j : ℕ) → j < n → p j ≤ q j) → 255 * n ≤ 2 ^ 24 → T (le (taps p k n) (taps q k n))
+  pub taps-mono : (n : ℕ) → Bytes q n → Weights k n → Under p q n → 255 * n ≤ 2 ^ 24 → T (le (taps p k n) (taps q k n))
   taps-mono n b w l N = cross→le (taps p k n) (taps q k n) (taps-bounded p k n (lower n b l) w N .0) (taps-bounded q k n b w N .0) (taps-cross n b w l N)
 
-  pub channel-mono : (n : ℕ) → Bytes q n → Weights k n → ((j : ℕ) → j < n → p j ≤ q j) → 255 * n ≤ 2 ^ 24 → toByte (taps p k n) ≤ toByte (taps q k n)
+  pub channel-mono : (n : ℕ) → Bytes q n → Weights k n → Under p q n → 255 * n ≤ 2 ^ 24 → toByte (taps p k n) ≤ toByte (taps q k n)
   channel-mono n b w l N = byte-mono (taps p k n) (taps q k n) (taps-cross n b w l N)
 
 -- ---- on the grid it is exact
@@ -169,6 +180,11 @@ taps-fit p k (suc n) = add-fits binary32 (taps p k n) (tap (p n) (k n))
 pub tap-nothing : (acc k : Float) → T (fits binary32 acc) → T (plain acc) → outsideUnit k ≡ false → add binary32 acc (tap 0 k) ≡ acc
 tap-nothing acc k F a w =
     tap-add acc 0 k a (lit≤ tt) w ∙ ap (add binary32 acc) (round-zero false (0 * num k) (den k) (den-pos k) (zero-mul (num k))) ∙ add-nothing acc F a
+
+-- a byte 0 as a float
+pub zero-wide : ofInt binary32 (pos 0) ≡ zero32
+unfolding ofInt
+zero-wide = round-zero false 0 1 (zero-lt-suc 0) refl
 
 -- ---- for a loop over taps
 pub taps-next : (p : ℕ → ℕ) (k : ℕ → Float) (n : ℕ) → taps p k (n + 1) ≡ add binary32 (taps p k n) (tap (p n) (k n))

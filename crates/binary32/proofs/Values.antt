@@ -7,8 +7,8 @@ use native.Mathlib.Nat.{zero-lt-suc, le-of-lt, le-of-eq, lt-of-not-le, not-le-of
 use native.Mathlib.Omega.{arith}
 use borrow.Author.Tests.{ltb-true, ltb-false, le-ltb}
 use lib.Dec.{T, ltb, eqb, eqb→eq, ltb→lt}
-use lib.IntN.{pos}
-use lib.Ieee.{Float, nan, inf, fin, binary32, up, down, below, round, sum, add, mul, ofInt, le, lt}
+use lib.IntN.{ℤ, pos}
+use lib.Ieee.{Float, nan, inf, fin, binary32, up, down, unlike, below, round, sum, add, mul, ofInt, le, lt}
 use lib.Ieee.Back.{round-whole}
 use lib.Ieee.Exact.{HasValue}
 use lib.Ieee.Fits.{and-l, down-pos}
@@ -24,11 +24,20 @@ plain nan = false
 plain (inf s) = false
 plain (fin s m e) = not s
 
+-- what holds of every such value as it is written
+pub on-plain : (P : Float → Type 0) → ((m : ℕ) (e : ℤ) → P (fin false m e)) → (x : Float) → T (plain x) → P x
+on-plain P f nan p = absurd p
+on-plain P f (inf s) p = absurd p
+on-plain P f (fin true m e) p = absurd p
+on-plain P f (fin false m e) p = f m e
+
+pub on-nonneg : (P : Float → Type 0) → ((s : Bool) (m : ℕ) (e : ℤ) → T (nonneg (fin s m e)) → P (fin s m e)) → (x : Float) → T (nonneg x) → P x
+on-nonneg P f nan p = absurd p
+on-nonneg P f (inf s) p = absurd p
+on-nonneg P f (fin s m e) p = f s m e p
+
 pub plain-nonneg : (x : Float) → T (plain x) → T (nonneg x)
-plain-nonneg nan p = absurd p
-plain-nonneg (inf s) p = absurd p
-plain-nonneg (fin true m e) p = absurd p
-plain-nonneg (fin false m e) p = tt
+plain-nonneg = on-plain (λ x. T (nonneg x)) (λ m e. tt)
 
 pub plain-of-value : (x : Float) (a c : ℕ) → HasValue x false a c → T (plain x)
 plain-of-value nan a c h = absurd h
@@ -37,10 +46,7 @@ plain-of-value (fin true m e) a c h = absurd (true≢false (h .0))
 plain-of-value (fin false m e) a c h = tt
 
 pub own-value : (x : Float) → T (plain x) → HasValue x false (num x) (den x)
-own-value nan p = absurd p
-own-value (inf s) p = absurd p
-own-value (fin true m e) p = absurd p
-own-value (fin false m e) p = (refl, refl)
+own-value = on-plain (λ x. HasValue x false (num x) (den x)) (λ m e. (refl, refl))
 
 -- ---- the order
 -- a value with a minus sign is zero
@@ -56,11 +62,10 @@ below-is true true a b f g = let z = f tt in let y = g tt in le-ltb b a (omega a
 
 pub lt-is : (x y : Float) → T (nonneg x) → T (nonneg y) → lt x y ≡ ltb (num x * den y) (num y * den x)
 unfolding lt
-lt-is nan y p q = absurd p
-lt-is (inf s) y p q = absurd p
-lt-is (fin s m e) nan p q = absurd q
-lt-is (fin s m e) (inf t) p q = absurd q
-lt-is (fin s m e) (fin t n d) p q = below-is s t (m * up e * down d) (n * up d * down e) (unsigned s m (up e) (down d) p) (unsigned t n (up d) (down e) q)
+lt-is x y p q =
+    on-nonneg (λ x. lt x y ≡ ltb (num x * den y) (num y * den x))
+    (λ s m e p. on-nonneg (λ y. lt (fin s m e) y ≡ ltb (m * up e * den y) (num y * down e))
+    (λ t n d q. below-is s t (m * up e * down d) (n * up d * down e) (unsigned s m (up e) (down d) p) (unsigned t n (up d) (down e) q)) y q) x p
 
 -- what a test says of values that equal a / c and b / d
 module _ (x y : Float) (a c b d : ℕ) (C : 0 < c) (D : 0 < d) (v : Is x a c) (w : Is y b d) where
@@ -89,13 +94,9 @@ lt-or-eq a b t h = go (ltb a b) (ltb→lt a b) h
 
 pub le→cross : (x y : Float) → T (plain x) → T (plain y) → T (le x y) → Cross x y
 unfolding le
-le→cross nan y p q h = absurd p
-le→cross (inf s) y p q h = absurd p
-le→cross (fin true m e) y p q h = absurd p
-le→cross (fin false m e) nan p q h = absurd q
-le→cross (fin false m e) (inf t) p q h = absurd q
-le→cross (fin false m e) (fin true n d) p q h = absurd q
-le→cross (fin false m e) (fin false n d) p q h = lt-or-eq (m * up e * down d) (n * up d * down e) true h
+le→cross x y p q =
+    on-plain (λ x. T (le x y) → Cross x y)
+    (λ m e. on-plain (λ y. T (le (fin false m e) y) → Cross (fin false m e) y) (λ n d. lt-or-eq (m * up e * down d) (n * up d * down e) true) y q) x p
 
 -- ---- the sum of two, of which one has no minus sign
 sum-is : (s t : Bool) (a b c : ℕ) → (T s → a ≡ 0) → (T t → b ≡ 0) → T (not s) ⊎ T (not t) → sum binary32 s a t b c ≡ round binary32 false (a + b) c
@@ -112,12 +113,10 @@ sum-is true true a b c f g (inr o) = absurd o
 
 pub add-is : (x y : Float) → T (nonneg x) → T (nonneg y) → T (plain x) ⊎ T (plain y) → add binary32 x y ≡ round binary32 false (num x * den y + num y * den x) (den x * den y)
 unfolding add
-add-is nan y p q o = absurd p
-add-is (inf s) y p q o = absurd p
-add-is (fin s m e) nan p q o = absurd q
-add-is (fin s m e) (inf t) p q o = absurd q
-add-is (fin s m e) (fin t n d) p q o =
-    sum-is s t (m * up e * down d) (n * up d * down e) (down e * down d) (unsigned s m (up e) (down d) p) (unsigned t n (up d) (down e) q) o
+add-is x y p q =
+    on-nonneg (λ x. T (plain x) ⊎ T (plain y) → add binary32 x y ≡ round binary32 false (num x * den y + num y * den x) (den x * den y))
+    (λ s m e p. on-nonneg (λ y. T (not s) ⊎ T (plain y) → add binary32 (fin s m e) y ≡ round binary32 false (m * up e * den y + num y * down e) (down e * den y))
+    (λ t n d q. sum-is s t (m * up e * down d) (n * up d * down e) (down e * down d) (unsigned s m (up e) (down d) p) (unsigned t n (up d) (down e) q)) y q) x p
 
 -- by any fractions with one divisor that they equal
 pub add-at : (x y : Float) (a b c : ℕ) → 0 < c → Is x a c → Is y b c → T (plain x) ⊎ T (plain y) → add binary32 x y ≡ round binary32 false (a + b) c
@@ -144,20 +143,19 @@ round-zero s a c C z = round-same binary32 s a c 0 1 C (zero-lt-suc 0) (mul-one 
 abbrev pub Alike : Float → Float → Type 0
 Alike x y = (x ≡ y) ⊎ ((x ≡ fin true 0 (pos 0)) × (y ≡ zero32))
 
-alike-zero : (a c : ℕ) → 0 < c → a ≡ 0 → Alike (round binary32 true a c) (round binary32 false a c)
-alike-zero a c C z = inr (round-zero true a c C z, round-zero false a c C z)
+alike : (s t : Bool) (a c : ℕ) → 0 < c → (T s → a ≡ 0) → (T t → a ≡ 0) → Alike (round binary32 (unlike s t) a c) (round binary32 false a c)
+alike false false a c C f g = inl refl
+alike true true a c C f g = inl refl
+alike true false a c C f g = inr (round-zero true a c C (f tt), round-zero false a c C (f tt))
+alike false true a c C f g = inr (round-zero true a c C (g tt), round-zero false a c C (g tt))
 
 pub mul-is : (x y : Float) → T (nonneg x) → T (nonneg y) → Alike (mul binary32 x y) (round binary32 false (num x * num y) (den x * den y))
 unfolding mul
-mul-is nan y p q = absurd p
-mul-is (inf s) y p q = absurd p
-mul-is (fin s m e) nan p q = absurd q
-mul-is (fin s m e) (inf t) p q = absurd q
-mul-is (fin false m e) (fin false n d) p q = inl refl
-mul-is (fin true m e) (fin true n d) p q = inl refl
-mul-is (fin true m e) (fin false n d) p q = alike-zero (m * up e * (n * up d)) (down e * down d) (mul-pos (down-pos e) (down-pos d)) (unsigned true m (up e) (n * up d) p tt)
-mul-is (fin false m e) (fin true n d) p q =
-    alike-zero (m * up e * (n * up d)) (down e * down d) (mul-pos (down-pos e) (down-pos d)) (mul-comm (m * up e) (n * up d) ∙ unsigned true n (up d) (m * up e) q tt)
+mul-is x y p q =
+    on-nonneg (λ x. Alike (mul binary32 x y) (round binary32 false (num x * num y) (den x * den y)))
+    (λ s m e p. on-nonneg (λ y. Alike (mul binary32 (fin s m e) y) (round binary32 false (m * up e * num y) (down e * den y)))
+    (λ t n d q. alike s t (m * up e * (n * up d)) (down e * down d) (mul-pos (down-pos e) (down-pos d)) (unsigned s m (up e) (n * up d) p)
+    (λ h. mul-comm (m * up e) (n * up d) ∙ unsigned t n (up d) (m * up e) q h)) y q) x p
 
 pub alike-is : (x y : Float) (a c : ℕ) → Alike x y → Is y a c → Is x a c
 alike-is x y a c (inl e) h = subst (λ (z : Float). Is z a c) (sym e) h

@@ -1,46 +1,46 @@
--- A value of binary32 is written in one way: two that are equal are the same, and one with nothing added is itself.
+-- How a value of binary32 is written: its bits, that two equal ones are the same, and that one with nothing added is itself.
 use mathlib.Core.Path.{_≡_, refl, sym, ap, _∙_, subst}
 use mathlib.Core.Logic.{inl}
-use mathlib.Core.Bool.{true, false}
+use mathlib.Core.Bool.{false, not}
 use Prim.Native.Nat.{ℕ, _+_, _-_, _*_, _/_, _^_, _<_}
-use native.Mathlib.Nat.{add-zero, zero-mul, mul-one, mul-right-comm}
+use native.Mathlib.Nat.{zero-add, add-zero, zero-mul, mul-one, mul-right-comm}
 use lib.Dec.{T}
-use lib.Ieee.{Float, nan, inf, fin, binary32, up, down, size, round, add, fits, ofBits, toBits}
+use lib.Ieee.{Float, binary32, size, round, add, fits, isNan, ofBits, toBits}
 use lib.Ieee.Bits.{ofBits-toBits}
 use lib.Ieee.Exact.{HasValue}
-use lib.Ieee.Fits.{down-pos, round-fits}
+use lib.Ieee.Fits.{round-fits}
 use lib.Ieee.Nearest.{div-same}
 use lib.Ieee.Positive.{num, den, den-pos, value→cross}
 use Rattle.binary32.specs.Ranges.{zero32}
-use Rattle.binary32.proofs.Values.{plain, plain-nonneg, plain-of-value, add-at}
-use Rattle.binary32.proofs.Scaled.{fits-says, scaled-value}
+use Rattle.binary32.proofs.Values.{plain, on-plain, plain-nonneg, plain-of-value, add-at}
+use Rattle.binary32.proofs.Scaled.{fits-below, exact}
 
-same-bits : (x y : Float) → T (plain x) → T (plain y) → num x * den y ≡ num y * den x → toBits binary32 x ≡ toBits binary32 y
+pub plain-told : (x : Float) → T (plain x) → T (not (isNan x))
+unfolding isNan
+plain-told = on-plain (λ x. T (not (isNan x))) (λ m e. tt)
+
+-- the bits of u units of 2 ^ -149: how many digits do not fit, and those that do
+abbrev pub bitsOf : ℕ → ℕ
+bitsOf u = (size u - 24) * 2 ^ 23 + u / 2 ^ (size u - 24)
+
+pub bits-are : (x : Float) → T (plain x) → toBits binary32 x ≡ bitsOf (num x * 2 ^ 149 / den x)
 unfolding toBits
-same-bits nan y p q h = absurd p
-same-bits (inf s) y p q h = absurd p
-same-bits (fin true m e) y p q h = absurd p
-same-bits (fin false m e) nan p q h = absurd q
-same-bits (fin false m e) (inf t) p q h = absurd q
-same-bits (fin false m e) (fin true n d) p q h = absurd q
-same-bits (fin false m e) (fin false n d) p q h =
-    ap (λ (u : ℕ). 0 + (size u - 24) * 2 ^ 23 + u / 2 ^ (size u - 24))
-    (div-same (m * up e * 2 ^ 149) (down e) (n * up d * 2 ^ 149) (down d) (down-pos e) (down-pos d)
-    (mul-right-comm (m * up e) (2 ^ 149) (down d) ∙ ap (λ (u : ℕ). u * 2 ^ 149) h ∙ mul-right-comm (n * up d) (down e) (2 ^ 149)))
+bits-are = on-plain (λ x. toBits binary32 x ≡ bitsOf (num x * 2 ^ 149 / den x)) (λ m e. rw zero-add)
 
 pub same : (x y : Float) → T (fits binary32 x) → T (fits binary32 y) → T (plain x) → T (plain y) → num x * den y ≡ num y * den x → x ≡ y
-same x y F G p q h = sym (ofBits-toBits binary32 x F) ∙ ap (ofBits binary32) (same-bits x y p q h) ∙ ofBits-toBits binary32 y G
+same x y F G p q h =
+    let units : num x * 2 ^ 149 / den x ≡ num y * 2 ^ 149 / den y =
+    div-same (num x * 2 ^ 149) (den x) (num y * 2 ^ 149) (den y) (den-pos x) (den-pos y) (mul-right-comm (num x) (2 ^ 149) (den y) ∙ ap (λ (u : ℕ). u * 2 ^ 149) h ∙ mul-right-comm (num y) (den x) (2 ^ 149)) in
+    sym (ofBits-toBits binary32 x F) ∙ ap (ofBits binary32) (bits-are x p ∙ ap bitsOf units ∙ sym (bits-are y q)) ∙ ofBits-toBits binary32 y G
 
 round-own : (x : Float) → T (fits binary32 x) → T (plain x) → round binary32 false (num x) (den x) ≡ x
-round-own nan F p = absurd p
-round-own (inf s) F p = absurd p
-round-own (fin true m e) F p = absurd p
-round-own (fin false m e) F p =
-    let z = round binary32 false (m * up e) (down e) in
-    let one = mul-one (m * up e) in
-    let v : HasValue z false (m * up e) (down e) =
-    subst (λ (a : ℕ). HasValue (round binary32 false a (down e)) false a (down e)) one (scaled-value false m e 0 F (subst (λ (a : ℕ). a < 2 ^ 128 * down e) (sym one) (fits-says false m e F .2))) in
-    same z (fin false m e) (round-fits binary32 false (m * up e) (down e)) F (plain-of-value z (m * up e) (down e) v) tt (value→cross z (m * up e) (down e) v)
+round-own x F p =
+    let z = round binary32 false (num x) (den x) in
+    let one = mul-one (num x) in
+    let n = plain-nonneg x p in
+    let v : HasValue z false (num x) (den x) =
+    subst (λ (a : ℕ). HasValue (round binary32 false a (den x)) false a (den x)) one (exact 0 x n F (subst (λ (a : ℕ). a < 2 ^ 128 * den x) (sym one) (fits-below x n F))) in
+    same z x (round-fits binary32 false (num x) (den x)) F (plain-of-value z (num x) (den x) v) p (value→cross z (num x) (den x) v)
 
 pub add-nothing : (x : Float) → T (fits binary32 x) → T (plain x) → add binary32 x zero32 ≡ x
 add-nothing x F p =

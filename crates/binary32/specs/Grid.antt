@@ -14,7 +14,7 @@ use Rattle.binary32.specs.declared.GridWeight.the-variants.{Numerator, O
 abbrev pub Is : Float → ℕ → ℕ → Type 0
 Is x a c = T (nonneg x) × (num x * c ≡ a * den x)
 
--- on the grid: from 0 to 1, and 65536 times it is whole. So x is m / 65536 for a whole m from 0 to 65536 (`grid-of`, `of-grid`)
+-- x is m / 65536 for a whole m from 0 to 65536: it lies from 0 to 1, and 65536 x is whole (`grid-of` and `of-grid` say that these are one)
 unfoldable pub onGrid : Float → Bool
 onGrid x = not (outsideUnit x) && eqb (num x * 65536 % den x) 0
 
@@ -30,6 +30,7 @@ gridWeight x = cond (onGrid x) (Numerator (numerator x)) Off
 unfoldable pub allOnGrid : List Float → Bool
 allOnGrid ws = not (anyOf (λ w. not (onGrid w)) ws)
 
+-- the numerators of a kernel, and their sum
 abbrev pub numerators : List Float → List ℕ
 numerators ws = map numerator ws
 

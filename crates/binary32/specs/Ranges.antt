@@ -29,6 +29,7 @@ anyOf f (x ∷ xs) = f x || anyOf f xs
 
 -- a weight is NaN, below 0 or above 1 (refusal 5)
 unfoldable pub anyOutside : List Float → Bool
+unfolding anyOf
 anyOutside ws = anyOf outsideUnit ws
 
 -- finite and not below 0; minus zero counts as 0

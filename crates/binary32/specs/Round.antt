@@ -10,7 +10,7 @@ use Rattle.binary32.specs.declared.Offset.{Offset}
 abbrev pub halfUp : ℕ → ℕ → ℕ
 halfUp a c = (2 * a + c) / (2 * c)
 
--- the whole number nearest to the size of x, halves upward; 0 of a NaN and of an infinity, for which it is never asked
+-- the whole number nearest to x, halves upward, of a finite x not below 0; else of its size, and 0 of a NaN and of an infinity
 unfoldable pub roundHalfUp : Float → ℕ
 roundHalfUp x = halfUp (num x) (den x)
 
@@ -27,21 +27,22 @@ abbrev pub steps : Bool → ℕ → Offset
 steps false n = record { plus = n; minus = 0 }
 steps true n = record { plus = 0; minus = n }
 
+-- whether x has a minus sign; a NaN counts as having none
 abbrev pub minusSign : Float → Bool
 minusSign nan = false
 minusSign (inf s) = s
 minusSign (fin s m e) = s
 
--- a finite offset: to the nearest whole number, halves away from zero
+-- a finite offset to the nearest whole number, halves away from zero: its size is rounded, and keeps its sign
 unfoldable pub wholeOffset : Float → Offset
 wholeOffset x = steps (minusSign x) (roundHalfUp x)
 
--- the size of x rounded and held to a bound: an infinite one is the bound, a NaN is 0
+-- the size of x rounded and held to a bound; an infinite one is the bound, and a NaN is 0
 unfoldable pub heldSize : ℕ → Float → ℕ
 heldSize bound nan = 0
 heldSize bound (inf s) = bound
 heldSize bound (fin s m e) = min bound (roundHalfUp (fin s m e))
 
--- any offset, rounded so and held to at most the bound either way
+-- any offset, rounded so and held to the bound either way: of a finite x it is `wholeOffset` held (`round-offset-held`)
 unfoldable pub roundOffset : ℕ → Float → Offset
 roundOffset bound x = steps (minusSign x) (heldSize bound x)

@@ -1,7 +1,7 @@
 // Binary32 values: the ranges that entries accept, rounding to a channel or to a whole offset, and
 // the grid of weights.
 ghost use mathlib.Core.Path.{_≡_};
-ghost use mathlib.Core.Bool.{true, false, cond};
+ghost use mathlib.Core.Bool.{false, cond};
 ghost use Prim.Native.Nat.{_*_, _≤_};
 ghost use lib.Dec.{T};
 ghost use lib.Ieee.{lt};
@@ -131,7 +131,7 @@ pub fn numerator_of(x: f32) -> GridWeight
     GridWeight::Numerator(whole as u32)
 }
 
-// A weight is not on the grid, or the numerators do not sum to 65536. Once the sum is above that, it stays so.
+// A weight is not on the grid, or the numerators do not sum to 65536. A sum above that stays above.
 pub fn off_grid(xs: &[f32]) -> bool
     ensures { λ r. ⌜ r ≡ offGrid (now (xs .entry)) ⌝ }
 {

@@ -1,12 +1,14 @@
 -- The blur of a level from the blur of the level below it.
-use mathlib.Core.Path.{_≡_, refl, _∙_}
-use mathlib.Core.List.{List}
-use Prim.Native.Nat.{ℕ, zero, suc, _-_, _<_}
+use mathlib.Core.Path.{_≡_, refl, sym, ap, _∙_}
+use mathlib.Core.List.{List, _++_}
+use Prim.Native.Nat.{ℕ, zero, suc, _-_, _<_, _≤_}
 use native.Mathlib.Numerals.{sub-one}
 use native.Mathlib.Omega.{arith}
 use lib.Ieee.{Float}
+use lib.ListN.{length, take, drop}
+use lib.Seq.{take-at, length-take-le}
 use Rattle.picture.specs.Planes.{Plane, chan, painted}
-use Rattle.picture.specs.Sizes.{half, halfLevel, Sized}
+use Rattle.picture.specs.Sizes.{half, halfLevel, levelBytes, Sized}
 use Rattle.picture.specs.declared.EdgeMode.{EdgeMode}
 use Rattle.picture.specs.declared.LevelSize.{LevelSize}
 use Rattle.picture.proofs.Planes.{chan-painted, painted-same}
@@ -42,3 +44,16 @@ module _ (mode : EdgeMode) (weights : List Float) (s : LevelSize) (z : Sized s) 
       ∙ blur-local (halve mode) (double mode) (convolve mode weights) (halve-local mode) (double-local mode) (convolve-local mode weights)
       n w h _ _ zw zh (λ a b la lb. chan-painted w h _ c a b lc la lb) u v)
       x y))
+
+  -- a part was halved, blurred where it lay, and doubled
+  pub step : (n : ℕ) (t : LevelSize) (k : ℕ) (p₁ e p₂ : List ℕ) → (n ≡ 0 → ⊥) → t ≡ halfLevel s → k ≡ levelBytes t → k ≤ length p₁ → length e ≡ length (take k p₁) →
+      take (levelBytes (halfLevel s)) p₁ ≡ levelPass (halve mode) s (halfLevel s) p →
+      e ≡ blurred mode weights (n - 1) (t .w) (t .h) (take k p₁) →
+      p₂ ≡ levelPass (double mode) (halfLevel s) s (take (levelBytes (halfLevel s)) (e ++ drop k p₁)) →
+      p₂ ≡ blurred mode weights n (s .w) (s .h) p
+  step n t k p₁ e p₂ some et ek le len halved self doubled =
+      let k′ : k ≡ levelBytes (halfLevel s) = ek ∙ ap levelBytes et in
+      let back : take k (e ++ drop k p₁) ≡ e = take-at e (drop k p₁) k (len ∙ length-take-le k p₁ le) in
+      let halved′ : take k p₁ ≡ levelPass (halve mode) s (halfLevel s) p = rw k′ halved in
+      let doubled′ : p₂ ≡ levelPass (double mode) (halfLevel s) s (take k (e ++ drop k p₁)) = doubled ∙ ap (λ (m : ℕ). levelPass (double mode) (halfLevel s) s (take m (e ++ drop k p₁))) (sym k′) in
+      doubled′ ∙ rw (back, self, et, halved′) (blurred-more n some)

@@ -1,8 +1,65 @@
 // The Gaussian blur with decimation: apply_blur, and the entry `blur`.
+use picture::EdgeMode;
+use picture::FullSize;
+use picture::LevelSize;
 ghost use mathlib.Core.Path.{_≡_};
+ghost use Prim.Native.Nat.{_≤_};
 ghost use lib.ListN.{length};
+ghost use Rattle.picture.specs.Planes.{bytesOf, cleared};
+ghost use Rattle.picture.specs.Sizes.{levelZero, levelBytes};
 ghost use Rattle.picture.specs.Refusal.{firstOf};
-ghost use Rattle.gaussian_blur.specs.Outcome.{blurChecks};
+ghost use Rattle.picture.specs.Answer.{answered};
+ghost use Rattle.gaussian_blur.specs.Blurred.{blurred};
+ghost use Rattle.gaussian_blur.specs.Needs.{Ready};
+ghost use Rattle.gaussian_blur.specs.Outcome.{blurChecks, blurredOrKept, lent, outcome};
+
+// Halves, blurs with one decimation fewer, and doubles; with none left it convolves.
+pub fn apply_blur(
+    picture: &mut [u8],
+    scratch: &mut [u8],
+    s: LevelSize,
+    n: u32,
+    weights: &[f32],
+    mode: EdgeMode,
+)
+    requires { ⌜ Ready s (now picture) (now scratch) (now weights) ⌝ }
+    ensures { λ _. ⌜ now (picture .exit) ≡ blurred mode (now (weights .entry)) n (s .w) (s .h) (now (picture .entry)) ⌝ }
+{
+    if n == 0 {
+        convolve::convolve_level(picture, scratch, s, weights, mode);
+    } else {
+        let t = s.half();
+        let k = t.bytes();
+        decimate::halve_level(picture, scratch, s, mode);
+        apply_blur(
+            &mut picture[..k],
+            &mut scratch[..k],
+            t,
+            n - 1,
+            weights,
+            mode,
+        );
+        decimate::double_level(picture, scratch, s, mode);
+    }
+}
+
+// Blurs where the strength is above zero, and else leaves the picture as it is.
+pub fn blur_or_keep(
+    picture: &mut [u8],
+    scratch: &mut [u8],
+    size: FullSize,
+    n: u32,
+    weights: &[f32],
+    mode: EdgeMode,
+    strength: f32,
+)
+    requires { ⌜ Ready (levelZero size) (now picture) (now scratch) (now weights) ⌝ }
+    ensures { λ _. ⌜ now (picture .exit) ≡ blurredOrKept mode (now (weights .entry)) n strength (size .w) (size .h) (now (picture .entry)) ⌝ }
+{
+    if 0.0 < strength {
+        apply_blur(picture, scratch, size.level_zero(), n, weights, mode);
+    }
+}
 
 // The first of refusals 1 to 7 and 9 that fits, 0 where none does; of the buffers' lengths.
 pub fn blur_refusal(

@@ -1,19 +1,14 @@
 -- `any_outside` meets its contract. The loop's invariant: the values from `i` on decide.
 use mathlib.Core.Path.{_≡_, _∙_, refl, sym}
 use mathlib.Core.Bool.{_||_}
-use mathlib.Core.List.{List}
-use Prim.Native.Nat.{ℕ, _+_, _-_, _≤_}
+use Prim.Native.Nat.{_+_, _-_, _≤_}
 use native.Mathlib.Omega.{arith}
 use borrow.Author.Needs.{needs}
-use lib.Ieee.{Float}
 use lib.ListN.{length, drop, drop-of-length-le}
 use Rattle.binary32.specs.Ranges.{anyOf, outsideUnit, anyOutside}
 use Rattle.binary32.proofs.Ranges.{any-step}
 use Rattle.binary32.proofs.any_outside.Statement.{statement}
 use Rattle.binary32.proofs.any_outside.Tie as tie
-use Rattle.binary32.proofs.any_outside.Reads as reads
-use Rattle.binary32.proofs.any_outside.Lts as lts
-use Rattle.binary32.proofs.outside_unit.Reads as outside-unit-reads
 
 abbrev Inv-loop : tie.InvT-loop
 Inv-loop xs i₀ i = (i ≤ length xs) × (anyOf outsideUnit xs ≡ anyOf outsideUnit (drop i xs))
@@ -56,7 +51,7 @@ loop-again : tie.Need-loop-again Inv-loop μ-loop
 loop-again c = (omega arith, looked (c .before) ∙ rw (c .if1 .left))
 
 returns-2 : tie.Need-returns-2 Inv-loop μ-loop
-unfolding anyOf anyOutside
+unfolding anyOutside
 returns-2 c =
     let at = c .before in
     sym (at .loop .inv .1 ∙ rw (drop-of-length-le (at .before .before .args .xs .now) {i = at .loop .i} (omega arith)))

@@ -1,6 +1,6 @@
 -- `held_size` meets its contract: below 2 ^ 32 twice x is exact, and half of its whole part and one is x rounded; from there on the bound is less.
-use mathlib.Core.Path.{_≡_, sym, ap, _∙_, subst}
-use Prim.Native.Nat.{ℕ, _+_, _/_, _≤_, min}
+use mathlib.Core.Path.{_≡_, sym, ap, subst}
+use Prim.Native.Nat.{_+_, _/_, _≤_, min}
 use native.Mathlib.Omega.{arith}
 use lib.Dec.{T}
 use lib.Ieee.{binary32, fits, ofBits}
@@ -9,9 +9,6 @@ use Rattle.binary32.specs.Round.{heldSize}
 use Rattle.binary32.proofs.Offsets.{cut-asks, cut-gives, beyond}
 use Rattle.binary32.proofs.held_size.Statement.{statement}
 use Rattle.binary32.proofs.held_size.Tie as tie
-use Rattle.binary32.proofs.held_size.Reads as reads
-use Rattle.binary32.proofs.held_size.Lts as lts
-use Rattle.std.proofs.num.truncating_f32_to_u64.Reads as truncating-f32-to-u64-reads
 
 -- x fits its type
 fit : (c : tie.Start) → T (fits binary32 (c .args .x))

@@ -1,8 +1,5 @@
 -- `nearest` meets its contract: each sum is whole, and half of their bits' sum is `y` rounded, but for a multiple of 256.
-use mathlib.Core.Path.{sym, subst}
-use mathlib.Core.Bool.{Bool, not}
 use borrow.Author.Needs.{needs}
-use lib.Dec.{T}
 use lib.Ieee.{ofBits}
 use Rattle.binary32.proofs.Sums.{first-told, second-told, sums-fit, sums-round}
 use Rattle.binary32.proofs.nearest.Statement.{statement}

@@ -10,10 +10,6 @@ use Rattle.binary32.specs.Ranges.{outsideUnit}
 use Rattle.binary32.proofs.Grid.{part, outside-off, part-cut, part-le, part-below, part-all}
 use Rattle.binary32.proofs.numerator_of.Statement.{statement}
 use Rattle.binary32.proofs.numerator_of.Tie as tie
-use Rattle.binary32.proofs.numerator_of.Reads as reads
-use Rattle.binary32.proofs.numerator_of.Lts as lts
-use Rattle.binary32.proofs.outside_unit.Reads as outside-unit-reads
-use Rattle.std.proofs.num.truncating_f32_to_u64.Reads as truncating-f32-to-u64-reads
 
 -- x fits its type
 fit : (c : tie.Start) → T (fits binary32 (c .args .x))

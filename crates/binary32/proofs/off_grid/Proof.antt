@@ -1,18 +1,14 @@
 -- `off_grid` meets its contract. The loop's invariant: the weights from `i` on decide, with the sum so far.
-use mathlib.Core.Path.{_≡_, _∙_, refl, sym}
-use mathlib.Core.Bool.{true}
-use Prim.Native.Nat.{ℕ, _+_, _-_, _≤_}
+use mathlib.Core.Path.{_≡_, _∙_, sym}
+use Prim.Native.Nat.{_+_, _-_, _≤_}
 use native.Mathlib.Omega.{arith}
 use borrow.Author.Needs.{needs}
 use lib.ListN.{length, drop}
-use Rattle.binary32.specs.Grid.{onGrid, numerator, offGrid}
+use Rattle.binary32.specs.Grid.{offGrid}
 use Rattle.binary32.proofs.Grid.{of-grid, answered-on, answered-off}
 use Rattle.binary32.proofs.Kernels.{weight, offFrom, off-none, off-end, off-far, off-here, off-step}
 use Rattle.binary32.proofs.off_grid.Statement.{statement}
 use Rattle.binary32.proofs.off_grid.Tie as tie
-use Rattle.binary32.proofs.off_grid.Reads as reads
-use Rattle.binary32.proofs.off_grid.Lts as lts
-use Rattle.binary32.proofs.numerator_of.Reads as numerator-of-reads
 
 abbrev Inv-loop : tie.InvT-loop
 Inv-loop xs sum₀ i₀ sum i = (i ≤ length xs) × (sum ≤ 65536) × (offGrid xs ≡ offFrom sum (drop i xs))

@@ -1,14 +1,11 @@
 -- `round_offset` meets its contract: the size is rounded, and the sign says which way it counts.
-use mathlib.Core.Path.{_≡_, ap, _∙_}
+use mathlib.Core.Path.{ap, _∙_}
 use mathlib.Core.Bool.{true, false}
 use lib.Ieee.{ofBits}
 use Rattle.binary32.specs.Round.{steps}
 use Rattle.binary32.proofs.Offsets.{forward, backward}
 use Rattle.binary32.proofs.round_offset.Statement.{statement}
 use Rattle.binary32.proofs.round_offset.Tie as tie
-use Rattle.binary32.proofs.round_offset.Reads as reads
-use Rattle.binary32.proofs.round_offset.Lts as lts
-use Rattle.binary32.proofs.held_size.Reads as held-size-reads
 
 held-size-requires : tie.Need-held-size-requires
 unfolding ofBits

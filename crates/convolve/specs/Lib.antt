@@ -1,0 +1,2 @@
+-- What the convolution asks of its buffers and its kernel.
+pub mod Needs
