@@ -13,14 +13,24 @@ module _ (s : LevelSize) (z : Sized s) {p q : ℕ} (ep : p ≡ levelBytes s) (eq
   rows =
       let e : s .h * (s .w * 4) ≡ levelBytes s = omega (arith, mul-assoc (s .h) (s .w) 4, mul-comm (s .h) (s .w)) in
       record {
-        lines-low = z .h-low; len-low = z .w-low; len-high = z .w-high; stride-low = omega arith;
-        src-is = omega arith; dst-is = omega arith; room = omega (arith, area s z);
+        lines-low = z .h-low;
+        len-low = z .w-low;
+        len-high = z .w-high;
+        stride-low = omega arith;
+        src-is = omega arith;
+        dst-is = omega arith;
+        room = omega (arith, area s z);
       }
 
   pub cols : Lines p q 1 (s .h) (4 * s .w)
   cols =
       let e : 1 * (s .h * (4 * s .w)) ≡ levelBytes s = omega (arith, mul-left-comm (s .h) 4 (s .w), mul-comm (s .h) (s .w)) in
       record {
-        lines-low = omega arith; len-low = z .h-low; len-high = z .h-high; stride-low = omega (arith, z .w-low);
-        src-is = omega arith; dst-is = omega arith; room = omega (arith, area s z);
+        lines-low = omega arith;
+        len-low = z .h-low;
+        len-high = z .h-high;
+        stride-low = omega (arith, z .w-low);
+        src-is = omega arith;
+        dst-is = omega arith;
+        room = omega (arith, area s z);
       }

@@ -76,7 +76,16 @@ pub fn convolve_lines(
     while i < dst.len() {
         let start = i / line * line;
         let at = i % line;
-        dst[i] = convolve_at(src, start, stride, len, at % stride, at / stride, weights, mode);
+        dst[i] = convolve_at(
+            src,
+            start,
+            stride,
+            len,
+            at % stride,
+            at / stride,
+            weights,
+            mode,
+        );
         i += 1;
     }
 }

@@ -10,7 +10,7 @@ ghost use Rattle.picture.specs.Sizes.{levelZero, levelBytes};
 ghost use Rattle.picture.specs.Refusal.{firstOf};
 ghost use Rattle.picture.specs.Answer.{answered};
 ghost use Rattle.gaussian_blur.specs.Blurred.{blurred};
-ghost use Rattle.gaussian_blur.specs.Needs.{Ready};
+ghost use Rattle.gaussian_blur.specs.Needs.{Ready, Accepted};
 ghost use Rattle.gaussian_blur.specs.Outcome.{blurChecks, blurredOrKept, lent, outcome};
 
 // Halves, blurs with one decimation fewer, and doubles; with none left it convolves.
@@ -91,4 +91,54 @@ pub fn blur_refusal(
         three,
     );
     picture::first(picture::WRONG_SIDES, picture::wrong_sides(w, h), two)
+}
+
+// An accepted call: the picture blurred or kept, and the scratch zero where it was used.
+fn blur_accepted(
+    picture: &mut [u8],
+    scratch: &mut [u8],
+    size: FullSize,
+    n: u32,
+    weights: &[f32],
+    mode: EdgeMode,
+    strength: f32,
+)
+    requires { ⌜ Accepted (levelZero size) (now picture) (now scratch) (now weights) ⌝ }
+    ensures { λ _. ⌜ lent (now (picture .exit)) (now (scratch .exit)) ≡ lent (blurredOrKept mode (now (weights .entry)) n strength (size .w) (size .h) (now (picture .entry))) (cleared (bytesOf (size .w) (size .h)) (now (scratch .entry))) ⌝ }
+{
+    let k = size.level_zero().bytes();
+    blur_or_keep(picture, &mut scratch[..k], size, n, weights, mode, strength);
+    picture::clear(scratch, k);
+}
+
+// Blurs a picture of w by h pixels where nothing is refused.
+pub fn blur(
+    picture: &mut [u8],
+    w: u32,
+    h: u32,
+    scratch: &mut [u8],
+    weights: &[f32],
+    n: u32,
+    strength: f32,
+    edge: u32,
+) -> u32
+    ensures { λ r. ⌜ answered r (lent (now (picture .exit)) (now (scratch .exit))) ≡ outcome (now (picture .entry)) w h (now (scratch .entry)) (now (weights .entry)) n strength edge ⌝ }
+{
+    let r = blur_refusal(
+        picture.len(),
+        w,
+        h,
+        scratch.len(),
+        weights,
+        n,
+        strength,
+        edge,
+    );
+    if r != 0 {
+        return r;
+    }
+    let size = picture::full_size(w, h);
+    let mode = picture::edge_mode(edge);
+    blur_accepted(picture, scratch, size, n, weights, mode, strength);
+    0
 }

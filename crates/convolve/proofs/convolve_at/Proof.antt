@@ -56,10 +56,11 @@ loop-again : tie.Need-loop-again Inv-loop μ-loop
 unfolding tap
 loop-again c =
     let l = c .before .before .before .before in
-    let a = l .before .before .before .args in
-    (omega arith,
-    ap₂ (λ (x : Float) (b : ℕ). add binary32 x (tap b (weight (a .weights .now) (l .loop .j)))) (l .loop .inv .1) (c .before .before .sample-lane .ensures)
-    ∙ sym (taps-next _ _ (l .loop .j)))
+    let a = l .before .before .before .args in (
+      omega arith,
+      ap₂ (λ (x : Float) (b : ℕ). add binary32 x (tap b (weight (a .weights .now) (l .loop .j)))) (l .loop .inv .1) (c .before .before .sample-lane .ensures)
+          ∙ sym (taps-next _ _ (l .loop .j)),
+    )
 
 -- all taps are in
 summed : (c : tie.After-loop Inv-loop μ-loop) → let a = c .before .before .before .before .args in

@@ -1,0 +1,122 @@
+-- What has been written so far is a run of bytes; each turn writes the next.
+use mathlib.Core.Path.{_≡_, refl}
+use Prim.Native.Nat.{_≤_, _-_}
+use native.Mathlib.Omega.{arith}
+use denote.Ref.{now}
+use lib.ListN.{length, length-set}
+use Rattle.passes.specs.Written.{Run}
+use Rattle.passes.proofs.Written.{run-none, run-more, run-same}
+use Rattle.blend.proofs.Taps.{weighted, Fit, taps-fit, taps-mix}
+use Rattle.blend.proofs.blend_element.Statement.{statement}
+use Rattle.blend.proofs.blend_element.Tie as tie
+
+abbrev Inv-loop : tie.InvT-loop
+Inv-loop src start stride dst₀ o ta tb tc td at-a at-b at-c at-d k₀ dst k =
+    (k ≤ stride) × (length dst ≡ length dst₀) × Run dst₀ dst o k (weighted src ta tb tc td) × Fit ta tb tc td stride (length src)
+
+abbrev μ-loop : tie.MeasureT-loop
+μ-loop src start stride dst₀ o ta tb tc td at-a at-b at-c at-d k₀ dst k = stride - k
+
+tap-of-requires : tie.Need-tap-of-requires Inv-loop μ-loop
+tap-of-requires c κs = omega arith
+
+tap-of-requires-2 : tie.Need-tap-of-requires-2 Inv-loop μ-loop
+tap-of-requires-2 c κs = omega arith
+
+tap-of-requires-3 : tie.Need-tap-of-requires-3 Inv-loop μ-loop
+tap-of-requires-3 c κs = omega arith
+
+tap-of-requires-4 : tie.Need-tap-of-requires-4 Inv-loop μ-loop
+tap-of-requires-4 c κs = omega arith
+
+loop-holds : tie.Need-loop-holds Inv-loop μ-loop
+loop-holds c =
+    let st = c .before .before .before .before .before .before in
+    let a = st .args in
+    (omega arith, refl, run-none, taps-fit (a .a) (a .b) (a .c) (a .d) (now (a .src)) (a .start) (a .stride) (c .before .before .before .tap-of .ensures) (c .before .before .tap-of2 .ensures) (c .before .tap-of3 .ensures) (c .tap-of4 .ensures) (st .pre))
+
+add-blend : tie.Need-add-blend Inv-loop μ-loop
+add-blend c = omega arith
+
+shared-slice-read-blend : tie.Need-shared-slice-read-blend Inv-loop μ-loop
+shared-slice-read-blend c = omega arith
+
+add-blend-2 : tie.Need-add-blend-2 Inv-loop μ-loop
+add-blend-2 c = omega arith
+
+shared-slice-read-blend-2 : tie.Need-shared-slice-read-blend-2 Inv-loop μ-loop
+shared-slice-read-blend-2 c = omega arith
+
+add-blend-3 : tie.Need-add-blend-3 Inv-loop μ-loop
+add-blend-3 c = omega arith
+
+shared-slice-read-blend-3 : tie.Need-shared-slice-read-blend-3 Inv-loop μ-loop
+shared-slice-read-blend-3 c = omega arith
+
+add-blend-4 : tie.Need-add-blend-4 Inv-loop μ-loop
+add-blend-4 c = omega arith
+
+shared-slice-read-blend-4 : tie.Need-shared-slice-read-blend-4 Inv-loop μ-loop
+shared-slice-read-blend-4 c = omega arith
+
+blend-requires : tie.Need-blend-requires Inv-loop μ-loop
+blend-requires c κs = omega arith
+
+add-dst : tie.Need-add-dst Inv-loop μ-loop
+add-dst c = omega (arith, c .before .before .before .before .before .before .before .before)
+
+slice-write-dst : tie.Need-slice-write-dst Inv-loop μ-loop
+slice-write-dst c = omega arith
+
+add-k : tie.Need-add-k Inv-loop μ-loop
+add-k c = omega arith
+
+loop-less : tie.Need-loop-less Inv-loop μ-loop
+loop-less c = omega arith
+
+loop-again : tie.Need-loop-again Inv-loop μ-loop
+loop-again c =
+    let l = c .before .before .before .before .before .before .loop .inv in
+    (omega arith, simp length-set (l .1), run-more (l .2) (omega arith) (c .blend .ensures), l .3)
+
+same-length : tie.Need-same-length Inv-loop μ-loop
+same-length c = c .before .loop .inv .1
+
+returns : tie.Need-returns Inv-loop μ-loop
+returns c =
+    let t4 = c .before .before in
+    let t3 = t4 .before in
+    let t2 = t3 .before in
+    let t1 = t2 .before in
+    let a = t1 .before .before .before .args in
+    let e : c .before .loop .k ≡ a .stride = omega arith in
+    run-same (rw e at (c .before .loop .inv .2))
+    (λ k _. taps-mix (a .a) (a .b) (a .c) (a .d) (now (a .src)) (a .start) (a .stride) (t1 .tap-of .ensures) (t2 .tap-of2 .ensures) (t3 .tap-of3 .ensures) (t4 .tap-of4 .ensures) k)
+
+pub blend-element-spec : {M : Type 1} → statement M
+blend-element-spec =
+    tie.close
+    (tie.spec
+    Inv-loop
+    μ-loop
+    tap-of-requires
+    tap-of-requires-2
+    tap-of-requires-3
+    tap-of-requires-4
+    loop-holds
+    add-blend
+    shared-slice-read-blend
+    add-blend-2
+    shared-slice-read-blend-2
+    add-blend-3
+    shared-slice-read-blend-3
+    add-blend-4
+    shared-slice-read-blend-4
+    blend-requires
+    add-dst
+    slice-write-dst
+    add-k
+    loop-less
+    loop-again
+    same-length
+    returns)

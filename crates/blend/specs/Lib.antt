@@ -1,0 +1,3 @@
+-- The definitions that contracts cite of bytes blended in weights 1, 3, 3, 1 over 8.
+pub mod Blend
+pub mod Pixels

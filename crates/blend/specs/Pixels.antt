@@ -1,0 +1,24 @@
+-- Pixels as bytes, and four pixels blended.
+use mathlib.Core.List.{List, [], _∷_}
+use Prim.Native.Nat.{ℕ, _+_}
+use lib.ListN.{getD}
+use Rattle.picture.specs.declared.Pixel.{Pixel}
+use Rattle.blend.specs.Blend.{mix}
+
+-- byte k of a pixel: r, g, b, a
+abbrev pub byteOf : Pixel → ℕ → ℕ
+byteOf p k = getD (p .r ∷ p .g ∷ p .b ∷ p .a ∷ []) k 0
+
+-- the pixel whose bytes start at `at`
+abbrev pub pixelAt : List ℕ → ℕ → Pixel
+pixelAt l at = record { r = getD l at 0; g = getD l (at + 1) 0; b = getD l (at + 2) 0; a = getD l (at + 3) 0 }
+
+-- four pixels blended, channel by channel
+abbrev pub mixPixels : Pixel → Pixel → Pixel → Pixel → Pixel
+mixPixels p q r s =
+    record {
+      r = mix (p .r) (q .r) (r .r) (s .r);
+      g = mix (p .g) (q .g) (r .g) (s .g);
+      b = mix (p .b) (q .b) (r .b) (s .b);
+      a = mix (p .a) (q .a) (r .a) (s .a);
+    }

@@ -1,0 +1,101 @@
+-- A level as lines: h rows of pixels, and one line of rows; and the two passes over it, each into the front of a buffer.
+use mathlib.Core.Path.{_≡_, refl, sym, ap, _∙_}
+use mathlib.Core.List.{List}
+use Prim.Native.Nat.{ℕ, _*_, _≤_}
+use native.Mathlib.Nat.{mul-assoc, mul-comm, mul-left-comm, mul-le-mul}
+use native.Mathlib.Omega.{arith}
+use lib.ListN.{length, take}
+use lib.Seq.{length-take-le}
+use Rattle.picture.specs.Planes.{bytesOf}
+use Rattle.picture.specs.Sizes.{half, halfLevel, levelBytes}
+use Rattle.picture.specs.declared.EdgeMode.{EdgeMode}
+use Rattle.picture.specs.declared.LevelSize.{LevelSize}
+use Rattle.picture.proofs.Sizes.{half-sized, half-fits}
+use Rattle.passes.specs.Levels.{levelPass}
+use Rattle.passes.specs.Written.{passed}
+use Rattle.passes.proofs.Levels.{level-passed}
+use Rattle.passes.proofs.Local.{Local, halve-local, double-local}
+use Rattle.decimate.specs.declared.Resize.{Resize}
+use Rattle.decimate.specs.declared.Resize.the-variants.{Halve, Double}
+use Rattle.decimate.specs.Resize.{passOf}
+use Rattle.decimate.specs.Room.{Lines, Levels, Buffers}
+
+-- a level's bytes are h rows of w pixels, and one line of h rows
+rows-bytes : (w h : ℕ) → bytesOf w h ≡ h * (w * 4)
+rows-bytes w h = omega (arith, mul-assoc h w 4, mul-comm h w)
+
+cols-bytes : (w h : ℕ) → bytesOf w h ≡ 1 * (h * (4 * w))
+cols-bytes w h = omega (arith, mul-left-comm h 4 w, mul-comm h w)
+
+local : (kind : Resize) (mode : EdgeMode) → Local (passOf kind mode)
+local Halve mode = halve-local mode
+local Double mode = double-local mode
+
+module _ {kind : Resize} {picture scratch : List ℕ} {s t : LevelSize} (r : Levels kind picture scratch s t) where
+  pub rows-lines : Lines kind (take (levelBytes s) picture) (take (s .h * (t .w * 4)) scratch) (s .h) (s .w) (t .w) 4
+  rows-lines =
+      record {
+        some = r .s-sized .h-low;
+        stride-low = omega arith;
+        len-low = r .s-sized .w-low;
+        len-high = r .s-sized .w-high;
+        makes = r .wide;
+        src-length = length-take-le _ _ (r .s-fits) ∙ rows-bytes (s .w) (s .h);
+        dst-length = length-take-le _ _ (r .between-fits);
+      }
+
+  pub cols-lines : {src : List ℕ} → length src ≡ s .h * (t .w * 4) → Lines kind src (take (levelBytes t) picture) 1 (s .h) (t .h) (4 * t .w)
+  cols-lines n =
+      record {
+        some = omega arith;
+        stride-low = omega (arith, r .t-sized .w-low);
+        len-low = r .s-sized .h-low;
+        len-high = r .s-sized .h-high;
+        makes = r .high;
+        src-length = n ∙ sym (rows-bytes (t .w) (s .h)) ∙ cols-bytes (t .w) (s .h);
+        dst-length = length-take-le _ _ (r .t-fits) ∙ cols-bytes (t .w) (t .h);
+      }
+
+  -- the columns of what the rows made
+  pub level-made : (mode : EdgeMode) {mid last : List ℕ} →
+      mid ≡ passed (passOf kind mode) (take (levelBytes s) picture) (s .h) (s .w) (t .w) 4 →
+      last ≡ passed (passOf kind mode) mid 1 (s .h) (t .h) (4 * t .w) →
+      last ≡ levelPass (passOf kind mode) s t (take (levelBytes s) picture)
+  level-made mode e f =
+      f
+      ∙ ap (λ (l : List ℕ). passed (passOf kind mode) l 1 (s .h) (t .h) (4 * t .w)) e
+      ∙ level-passed (passOf kind mode) (local kind mode) s t (r .s-sized) (take (levelBytes s) picture)
+
+-- what is between the two passes is no larger than the larger level
+between : (w h v u : ℕ) → v ≤ w → u ≤ h → u * (v * 4) ≤ bytesOf w h
+between w h v u a b = rw (rows-bytes w h) (mul-le-mul {n₁ = u} {m₁ = v * 4} {n₂ = h} {m₂ = w * 4} b (omega arith))
+
+module _ {picture scratch : List ℕ} {s : LevelSize} (b : Buffers picture scratch s) where
+  small : levelBytes (halfLevel s) ≤ levelBytes s
+  small = half-fits s (b .sized)
+
+  -- a level becomes its half, ..
+  pub halving : Levels Halve picture scratch s (halfLevel s)
+  halving =
+      record {
+        s-sized = b .sized;
+        t-sized = half-sized s (b .sized);
+        wide = refl;
+        high = refl;
+        s-fits = omega (arith, b .picture-length);
+        t-fits = omega (arith, b .picture-length, small);
+        between-fits = omega (arith, b .scratch-length, between (s .w) (s .h) (half (s .w)) (s .h) (omega (arith, b .sized .w-low)) (omega arith));
+      }
+
+  -- .. and its half becomes the level
+  pub doubling : Levels Double picture scratch (halfLevel s) s
+  doubling =
+      record {
+        s-sized = half-sized s (b .sized);
+        t-sized = b .sized;
+        wide = refl;
+        high = refl;
+        s-fits = omega (arith, b .picture-length, small);
+        t-fits = omega (arith, b .picture-length);
+        between-fits = omega (arith, b .scratch-length, between (s .w) (s .h) (s .w) (half (s .h)) (omega arith) (omega (arith, b .sized .h-low)));
+      }

@@ -1,0 +1,83 @@
+-- The two places are doubling's samples, and blended they are the output.
+use Prim.Native.Nat.{_+_, _/_}
+use native.Mathlib.Omega.{arith}
+use denote.Ref.{now}
+use borrow.Author.Needs.{needs}
+use Rattle.picture.proofs.Sizes.{room-is}
+use Rattle.passes.specs.Written.{lane}
+use Rattle.passes.proofs.Written.{run-same}
+use Rattle.decimate.proofs.Places.{places-room}
+use Rattle.decimate.proofs.Outputs.{doubled-even, doubled-odd}
+use Rattle.decimate.proofs.double_element.Statement.{statement}
+use Rattle.decimate.proofs.double_element.Tie as tie
+
+find-place-requires : tie.Need-find-place-requires
+find-place-requires c κs = omega (arith, room-is)
+
+find-place-requires-2 : tie.Need-find-place-requires-2
+find-place-requires-2 c κs = omega (arith, room-is)
+
+blend-element-requires : tie.Need-blend-element-requires
+blend-element-requires c κs =
+    let t2 = c .before in
+    let t1 = t2 .before .before in
+    let st = t1 .before .before .before in
+    let x = st .args .y / 2 in
+    places-room (st .args .mode) (st .pre .1) x 1 x 0 x 0 x 1 (t2 .find-place2 .ensures) (t1 .find-place .ensures) (t1 .find-place .ensures) (t2 .find-place2 .ensures)
+
+add-find-place : tie.Need-add-find-place
+add-find-place c = search needs
+
+find-place-requires-3 : tie.Need-find-place-requires-3
+find-place-requires-3 c κs = omega (arith, room-is)
+
+blend-element-requires-2 : tie.Need-blend-element-requires-2
+blend-element-requires-2 c κs =
+    let t2 = c .before in
+    let t1 = t2 .before .before in
+    let st = t1 .before .before .before in
+    let x = st .args .y / 2 in
+    places-room (st .args .mode) (st .pre .1) (x + 1) 0 x 0 x 0 (x + 1) 0 (t2 .find-place3 .ensures) (t1 .find-place .ensures) (t1 .find-place .ensures) (t2 .find-place3 .ensures)
+
+same-length : tie.Need-same-length
+same-length c = search needs
+
+returns : tie.Need-returns
+returns c =
+    let b = c .before .before in
+    let t2 = b .before .before in
+    let i = t2 .before in
+    let t1 = i .before in
+    let a = t1 .before .before .before .args in
+    let even = i .if1 .taken in
+    run-same (b .blend-element .ensures)
+    (λ k _. doubled-even (a .mode) (a .len) (a .y / 2) (a .y) (lane (now (a .src)) (a .start) (a .stride) k) (t1 .find-place .ensures) (omega arith) (t2 .find-place2 .ensures))
+
+same-length-2 : tie.Need-same-length-2
+same-length-2 c = search needs
+
+returns-2 : tie.Need-returns-2
+returns-2 c =
+    let b = c .before .before in
+    let t2 = b .before .before in
+    let i = t2 .before in
+    let t1 = i .before in
+    let a = t1 .before .before .before .args in
+    let odd = i .if1 .left in
+    run-same (b .blend-element2 .ensures)
+    (λ k _. doubled-odd (a .mode) (a .len) (a .y / 2) (a .y) (lane (now (a .src)) (a .start) (a .stride) k) (t1 .find-place .ensures) (omega arith) (t2 .find-place3 .ensures))
+
+pub double-element-spec : {M : Type 1} → statement M
+double-element-spec =
+    tie.close
+    (tie.spec
+    find-place-requires
+    find-place-requires-2
+    blend-element-requires
+    add-find-place
+    find-place-requires-3
+    blend-element-requires-2
+    same-length
+    returns
+    same-length-2
+    returns-2)

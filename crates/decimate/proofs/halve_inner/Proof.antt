@@ -1,0 +1,67 @@
+-- The outputs so far are a part of the row; each turn joins the next to it.
+use mathlib.Core.Path.{_≡_, refl}
+use Prim.Native.Nat.{_+_, _-_, _*_, _/_, _≤_}
+use native.Mathlib.Omega.{arith}
+use lib.ListN.{length}
+use Rattle.picture.proofs.Sizes.{room-is}
+use Rattle.passes.proofs.Written.{part-none, part-join}
+use Rattle.decimate.specs.declared.Resize.the-variants.{Halve}
+use Rattle.decimate.specs.Made.{MadeInside}
+use Rattle.decimate.proofs.halve_inner.Statement.{statement}
+use Rattle.decimate.proofs.halve_inner.Tie as tie
+
+abbrev Inv-loop : tie.InvT-loop
+Inv-loop src start len dst₀ o x₀ dst x =
+    (1 ≤ x) × (2 * x + 1 ≤ len) × (length dst ≡ length dst₀) × MadeInside Halve src dst₀ dst start len o 1 x
+
+abbrev μ-loop : tie.MeasureT-loop
+μ-loop src start len dst₀ o x₀ dst x = len - x
+
+loop-holds : tie.Need-loop-holds Inv-loop μ-loop
+loop-holds c = (omega arith, omega arith, refl, λ mode. part-none)
+
+mul-loop : tie.Need-mul-loop Inv-loop μ-loop
+mul-loop c = omega (arith, room-is)
+
+add-loop : tie.Need-add-loop Inv-loop μ-loop
+add-loop c = omega (arith, room-is)
+
+halve-pixel-requires : tie.Need-halve-pixel-requires Inv-loop μ-loop
+halve-pixel-requires c κs = omega arith
+
+add-x : tie.Need-add-x Inv-loop μ-loop
+add-x c = omega (arith, room-is)
+
+loop-less : tie.Need-loop-less Inv-loop μ-loop
+loop-less c = omega arith
+
+loop-again : tie.Need-loop-again Inv-loop μ-loop
+loop-again c =
+    let e = c .before .before in
+    let g = e .before .before .before in
+    (omega arith, omega arith, omega arith, λ mode. part-join (omega arith) (omega arith) (g .loop .inv .3 mode) (e .halve-pixel .ensures mode))
+
+same-length : tie.Need-same-length Inv-loop μ-loop
+same-length c = c .before .loop .inv .2
+
+returns : tie.Need-returns Inv-loop μ-loop
+returns c =
+    let a = c .before .before .before .before .args in
+    let e : c .before .loop .x ≡ (a .len - 1) / 2 = omega arith in
+    rw e at (c .before .loop .inv .3)
+
+pub halve-inner-spec : {M : Type 1} → statement M
+halve-inner-spec =
+    tie.close
+    (tie.spec
+    Inv-loop
+    μ-loop
+    loop-holds
+    mul-loop
+    add-loop
+    halve-pixel-requires
+    add-x
+    loop-less
+    loop-again
+    same-length
+    returns)

@@ -1,0 +1,36 @@
+-- The whole picture is the level, and its half's bytes come to stand in front.
+use mathlib.Core.Path.{ap, _∙_}
+use native.Mathlib.Omega.{arith}
+use denote.Ref.{now}
+use lib.Seq.{take-all}
+use borrow.Author.Needs.{needs}
+use Rattle.picture.specs.Sizes.{halfLevel, levelBytes}
+use Rattle.passes.specs.Passes.{halve}
+use Rattle.passes.specs.Levels.{levelPass}
+use Rattle.decimate.proofs.Levels.{halving}
+use Rattle.decimate.proofs.halve_level.Statement.{statement}
+use Rattle.decimate.proofs.halve_level.Tie as tie
+
+half-requires : tie.Need-half-requires
+half-requires c κs = search needs
+
+resize-level-requires : tie.Need-resize-level-requires
+resize-level-requires c κs = rw (c .half .ensures) (halving (c .before .before .before .before .before .pre))
+
+same-length : tie.Need-same-length
+same-length c = search needs
+
+same-length-2 : tie.Need-same-length-2
+same-length-2 c = search needs
+
+returns : tie.Need-returns
+returns c =
+    let e = c .before .before .before .before in
+    let st = e .before .before .before .before .before .before in
+    let a = st .args in
+    rw (e .before .half .ensures) at (e .resize-level .ensures)
+    ∙ ap (levelPass (halve (a .mode)) (a .s) (halfLevel (a .s))) (take-all (levelBytes (a .s)) (now (a .picture)) (omega (arith, st .pre .picture-length)))
+
+pub halve-level-spec : {M : Type 1} → statement M
+halve-level-spec =
+    tie.close (tie.spec half-requires resize-level-requires same-length same-length-2 returns)

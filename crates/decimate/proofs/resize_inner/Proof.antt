@@ -1,0 +1,45 @@
+-- Each arm is the inside of its kind.
+use borrow.Author.Needs.{needs}
+use Rattle.decimate.proofs.resize_inner.Statement.{statement}
+use Rattle.decimate.proofs.resize_inner.Tie as tie
+
+enum-told : tie.Need-enum-told
+enum-told c = search needs
+
+halve-inner-requires : tie.Need-halve-inner-requires
+halve-inner-requires c κs = rw (c .before .enum-told .given .1) at (c .before .before .before .before .before .pre)
+
+enum-told-2 : tie.Need-enum-told-2
+enum-told-2 c = search needs
+
+double-inner-requires : tie.Need-double-inner-requires
+double-inner-requires c κs = rw (c .before .enum-told2 .given .1) at (c .before .before .before .before .before .pre)
+
+same-length : tie.Need-same-length
+same-length c = search needs
+
+returns : tie.Need-returns
+returns c =
+    let e = c .before .before in
+    simp (e .before .before .enum-told .given .1) (e .halve-inner .ensures)
+
+same-length-2 : tie.Need-same-length-2
+same-length-2 c = search needs
+
+returns-2 : tie.Need-returns-2
+returns-2 c =
+    let e = c .before .before in
+    simp (e .before .before .enum-told2 .given .1) (e .double-inner .ensures)
+
+pub resize-inner-spec : {M : Type 1} → statement M
+resize-inner-spec =
+    tie.close
+    (tie.spec
+    enum-told
+    halve-inner-requires
+    enum-told-2
+    double-inner-requires
+    same-length
+    returns
+    same-length-2
+    returns-2)

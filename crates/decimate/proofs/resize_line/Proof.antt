@@ -1,0 +1,36 @@
+-- A row of pixels goes the shorter way, and every other line by its elements.
+use native.Mathlib.Omega.{arith}
+use borrow.Author.Needs.{needs}
+use Rattle.decimate.proofs.Sizes.{out-high}
+use Rattle.decimate.proofs.resize_line.Statement.{statement}
+use Rattle.decimate.proofs.resize_line.Tie as tie
+
+resize-row-requires : tie.Need-resize-row-requires
+resize-row-requires c κs =
+    let st = c .before .before .before .before .before in
+    (c .before .if2 .taken, st .pre .0, rw (c .before .before .if1 .taken) at (st .pre .1))
+
+same-length : tie.Need-same-length
+same-length c = search needs
+
+returns : tie.Need-returns
+returns c =
+    let e = c .before .before in
+    rw (e .before .before .before .if1 .taken) (e .resize-row .ensures)
+
+resize-part-requires : tie.Need-resize-part-requires
+resize-part-requires c κs =
+    let st = c .before .before .before .before in
+    let a = st .args in
+    (omega arith, out-high (a .kind) (a .len) (a .out) (st .pre .1 .len-high) (st .pre .0), st .pre .1)
+
+same-length-2 : tie.Need-same-length-2
+same-length-2 c = search needs
+
+returns-2 : tie.Need-returns-2
+returns-2 c = search needs
+
+pub resize-line-spec : {M : Type 1} → statement M
+resize-line-spec =
+    tie.close
+    (tie.spec resize-row-requires same-length returns resize-part-requires same-length-2 returns-2)

@@ -1,0 +1,93 @@
+-- The lines so far are a part of all; each turn joins the next to it, and all of them are the pass.
+use mathlib.Core.Path.{_≡_, refl}
+use Prim.Native.Nat.{ℕ, _+_, _*_, _-_, _≤_, _<_}
+use native.Mathlib.Omega.{arith}
+use denote.Ref.{now}
+use lib.ListN.{length}
+use Rattle.passes.specs.Written.{Part}
+use Rattle.passes.proofs.Written.{within, part-none, part-one, part-join, part-run, lineOf, part-passed}
+use Rattle.decimate.specs.Resize.{passOf}
+use Rattle.decimate.proofs.resize_lines.Statement.{statement}
+use Rattle.decimate.proofs.resize_lines.Tie as tie
+
+abbrev Inv-loop : tie.InvT-loop
+Inv-loop src dst₀ lines len out stride mode kind long short y₀ dst y =
+    (y ≤ lines)
+    × (length dst ≡ length dst₀)
+    × Part dst₀ dst 0 0 y (out * stride) (λ z k. lineOf (passOf kind mode) src (z * (len * stride)) len stride k)
+
+abbrev μ-loop : tie.MeasureT-loop
+μ-loop src dst₀ lines len out stride mode kind long short y₀ dst y = lines - y
+
+-- line y of those before `lines` lies within src, and what it becomes within dst
+room : (c : tie.After-slice-known Inv-loop μ-loop) (y : ℕ) →
+    let a = c .before .before .args in
+    y < a .lines →
+    (y * (a .len * a .stride) + a .len * a .stride ≤ length (now (a .src))) × (y * (a .out * a .stride) + a .out * a .stride ≤ length (now (a .dst)))
+room c y l =
+    let st = c .before .before in
+    let a = st .args in
+    omega (arith, within 0 (a .len * a .stride) y (a .lines) l, within 0 (a .out * a .stride) y (a .lines) l, st .pre .src-length, st .pre .dst-length)
+
+mul-long : tie.Need-mul-long Inv-loop μ-loop
+mul-long c = omega (arith, room c 0 (c .before .before .pre .some))
+
+mul-short : tie.Need-mul-short Inv-loop μ-loop
+mul-short c = omega (arith, room c 0 (c .before .before .pre .some))
+
+loop-holds : tie.Need-loop-holds Inv-loop μ-loop
+loop-holds c = (omega arith, refl, part-none)
+
+mul-resize-line : tie.Need-mul-resize-line Inv-loop μ-loop
+mul-resize-line c = omega (arith, room (c .before .before) (c .before .loop .y) (c .loop-test .taken))
+
+mul-resize-line-2 : tie.Need-mul-resize-line-2 Inv-loop μ-loop
+mul-resize-line-2 c = omega (arith, room (c .before .before .before) (c .before .before .loop .y) (c .before .loop-test .taken))
+
+resize-line-requires : tie.Need-resize-line-requires Inv-loop μ-loop
+resize-line-requires c κs =
+    let p = c .before .before .before .before .before .pre in
+    let r = room (c .before .before .before) (c .before .before .loop .y) (c .before .loop-test .taken) in
+    (p .makes, record { len-low = p .len-low; len-high = p .len-high; src-ends = r .0; dst-ends = omega (arith, r .1) })
+
+add-y : tie.Need-add-y Inv-loop μ-loop
+add-y c = omega arith
+
+loop-less : tie.Need-loop-less Inv-loop μ-loop
+loop-less c = omega arith
+
+loop-again : tie.Need-loop-again Inv-loop μ-loop
+loop-again c =
+    let e = c .before .before in
+    let g = e .before .before .before in
+    let a = g .before .before .before .args in
+    let from : 0 + g .loop .y * (a .out * a .stride) ≡ g .loop .y * (a .out * a .stride) = omega arith in
+    (omega arith, omega arith, part-join (omega arith) (omega arith) (g .loop .inv .2) (part-one (rw from (part-run (g .before .before .before .pre .stride-low) (e .resize-line .ensures)))))
+
+same-length : tie.Need-same-length Inv-loop μ-loop
+same-length c = c .before .loop .inv .1
+
+returns : tie.Need-returns Inv-loop μ-loop
+returns c =
+    let st = c .before .before .before .before in
+    let a = st .args in
+    let e : c .before .loop .y ≡ a .lines = omega arith in
+    part-passed (passOf (a .kind) (a .mode)) (now (a .src)) (a .lines) (a .len) (a .out) (a .stride) (omega (arith, st .pre .dst-length)) (rw e at (c .before .loop .inv .2))
+
+pub resize-lines-spec : {M : Type 1} → statement M
+resize-lines-spec =
+    tie.close
+    (tie.spec
+    Inv-loop
+    μ-loop
+    mul-long
+    mul-short
+    loop-holds
+    mul-resize-line
+    mul-resize-line-2
+    resize-line-requires
+    add-y
+    loop-less
+    loop-again
+    same-length
+    returns)

@@ -1,0 +1,67 @@
+-- The two ends and what lies between join to the whole row.
+use Prim.Native.Nat.{_*_, _≤_}
+use native.Mathlib.Omega.{arith}
+use borrow.Author.Needs.{needs}
+use Rattle.picture.specs.Sizes.{sideRoom}
+use Rattle.passes.proofs.Written.{part-join}
+use Rattle.decimate.proofs.Sizes.{out-high, inner-fits}
+use Rattle.decimate.proofs.resize_row.Statement.{statement}
+use Rattle.decimate.proofs.resize_row.Tie as tie
+
+inner-from-requires : tie.Need-inner-from-requires
+inner-from-requires c κs = search needs
+
+inner-to-requires : tie.Need-inner-to-requires
+inner-to-requires c κs = search needs
+
+-- the outputs inside lie between the ends of the row
+bounds : (c : tie.After-inner-to) →
+    let a = c .before .before .before .before .args in
+    (c .before .inner-from .result ≤ c .inner-to .result) × (c .inner-to .result ≤ a .out) × (a .out ≤ 2 * sideRoom)
+bounds c =
+    let st = c .before .before .before .before in
+    let a = st .args in
+    let f = inner-fits (a .kind) (a .len) (a .out) (st .pre .0) (st .pre .1) in
+    rw (c .before .inner-from .ensures, c .inner-to .ensures)
+    (f .0, f .1, out-high (a .kind) (a .len) (a .out) (st .pre .2 .len-high) (st .pre .1))
+
+resize-part-requires : tie.Need-resize-part-requires
+resize-part-requires c κs = omega (arith, bounds (c .before))
+
+resize-inner-requires : tie.Need-resize-inner-requires
+resize-inner-requires c κs =
+    let t = c .before .before .before .before .before in
+    rw (← t .inner-to .ensures) (omega (arith, bounds t, c .before .before .before .before .before .before .before .before .before))
+
+resize-part-requires-2 : tie.Need-resize-part-requires-2
+resize-part-requires-2 c κs =
+    let t = c .before .before .before .before .before .before .before .before .before in
+    omega (arith, bounds t, t .before .before .before .before)
+
+same-length : tie.Need-same-length
+same-length c = search needs
+
+returns : tie.Need-returns
+returns c =
+    let p2 = c .before .before in
+    let i = p2 .before .before .before .before in
+    let p1 = i .before .before .before .before in
+    let t = p1 .before .before in
+    let a = t .before .before .before .before .args in
+    let b = bounds t in
+    part-join (omega arith) (b .1)
+    (part-join (omega arith) (b .0) (p1 .resize-part .ensures)
+    (rw (← t .before .inner-from .ensures, ← t .inner-to .ensures) at (i .resize-inner .ensures (a .mode))))
+    (p2 .resize-part2 .ensures)
+
+pub resize-row-spec : {M : Type 1} → statement M
+resize-row-spec =
+    tie.close
+    (tie.spec
+    inner-from-requires
+    inner-to-requires
+    resize-part-requires
+    resize-inner-requires
+    resize-part-requires-2
+    same-length
+    returns)

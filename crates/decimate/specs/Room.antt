@@ -1,0 +1,42 @@
+-- What lines and levels need: lengths that are exact or suffice, and sides that the arithmetic has room for.
+use mathlib.Core.Path.{_≡_}
+use mathlib.Core.List.{List}
+use Prim.Native.Nat.{ℕ, _+_, _*_, _≤_, _<_}
+use lib.ListN.{length}
+use Rattle.picture.specs.Sizes.{sideRoom, levelBytes, Sized}
+use Rattle.picture.specs.declared.LevelSize.{LevelSize}
+use Rattle.decimate.specs.declared.Resize.{Resize}
+use Rattle.decimate.specs.Resize.{Makes}
+
+-- a line of len elements within src, and n elements at o within dst
+pub record Room (src dst : List ℕ) (start stride len o n : ℕ) : Type 0 where
+  pub len-low : 0 < len
+  pub len-high : len ≤ sideRoom
+  pub src-ends : start + len * stride ≤ length src
+  pub dst-ends : o + n * stride ≤ length dst
+
+-- lines of len elements are all of src, and as many of out elements all of dst
+pub record Lines (kind : Resize) (src dst : List ℕ) (lines len out stride : ℕ) : Type 0 where
+  pub some : 0 < lines
+  pub stride-low : 0 < stride
+  pub len-low : 0 < len
+  pub len-high : len ≤ sideRoom
+  pub makes : Makes kind len out
+  pub src-length : length src ≡ lines * (len * stride)
+  pub dst-length : length dst ≡ lines * (out * stride)
+
+-- a level of size s becomes one of size t, and both buffers have room for either and for what is between the two passes
+pub record Levels (kind : Resize) (picture scratch : List ℕ) (s t : LevelSize) : Type 0 where
+  pub s-sized : Sized s
+  pub t-sized : Sized t
+  pub wide : Makes kind (s .w) (t .w)
+  pub high : Makes kind (s .h) (t .h)
+  pub s-fits : levelBytes s ≤ length picture
+  pub t-fits : levelBytes t ≤ length picture
+  pub between-fits : s .h * (t .w * 4) ≤ length scratch
+
+-- a level, and two buffers that are just as long
+pub record Buffers (picture scratch : List ℕ) (s : LevelSize) : Type 0 where
+  pub sized : Sized s
+  pub picture-length : length picture ≡ levelBytes s
+  pub scratch-length : length scratch ≡ levelBytes s

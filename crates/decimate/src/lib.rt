@@ -1,0 +1,318 @@
+// Halving and doubling of lines, rows and columns alike, and of whole levels.
+ghost use mathlib.Core.Path.{_≡_};
+ghost use Prim.Native.Nat.{_+_, _*_, _≤_, _<_};
+ghost use lib.ListN.{length, take};
+ghost use Rattle.picture.specs.Sizes.{sideRoom, halfLevel, levelBytes, Sized};
+ghost use Rattle.passes.specs.Passes.{halve, double};
+ghost use Rattle.passes.specs.Written.{lane, passed, Run};
+ghost use Rattle.passes.specs.Levels.{levelPass};
+ghost use Rattle.decimate.specs.Resize.{passOf, Makes, innerFrom, innerTo};
+ghost use Rattle.decimate.specs.Room.{Room, Lines, Levels, Buffers};
+ghost use Rattle.decimate.specs.Made.{Made, MadeInside};
+use blend::blend_element;
+use blend::blend_pixels;
+use blend::find_place;
+use blend::read_pixel;
+use blend::write_pixel;
+use picture::EdgeMode;
+use picture::LevelSize;
+
+// Which of the two a line takes.
+pub enum Resize {
+    Halve,
+    Double,
+}
+
+// Output x of a line of len elements, halved: an element at o.
+fn halve_element(
+    src: &[u8],
+    start: usize,
+    stride: usize,
+    len: usize,
+    dst: &mut [u8],
+    o: usize,
+    x: usize,
+    mode: EdgeMode,
+)
+    requires { ⌜ (x < 2 * sideRoom) × Room (now src) (now dst) start stride len o 1 ⌝ }
+    ensures { λ _. ⌜ Run (now (dst .entry)) (now (dst .exit)) o stride (λ k. halve mode len (lane (now (src .entry)) start stride k) x) ⌝ }
+{
+    let a = find_place(2 * x, 1, len, mode);
+    let b = find_place(2 * x, 0, len, mode);
+    let c = find_place(2 * x + 1, 0, len, mode);
+    let d = find_place(2 * x + 2, 0, len, mode);
+    blend_element(src, a, b, c, d, start, stride, dst, o);
+}
+
+// Output y of a line of len elements, doubled: weights 1, 3 over 4 are weights 1, 3, 3, 1 over 8.
+fn double_element(
+    src: &[u8],
+    start: usize,
+    stride: usize,
+    len: usize,
+    dst: &mut [u8],
+    o: usize,
+    y: usize,
+    mode: EdgeMode,
+)
+    requires { ⌜ (y < 2 * sideRoom) × Room (now src) (now dst) start stride len o 1 ⌝ }
+    ensures { λ _. ⌜ Run (now (dst .entry)) (now (dst .exit)) o stride (λ k. double mode len (lane (now (src .entry)) start stride k) y) ⌝ }
+{
+    let x = y / 2;
+    let b = find_place(x, 0, len, mode);
+    if y % 2 == 0 {
+        let a = find_place(x, 1, len, mode);
+        blend_element(src, a, b, b, a, start, stride, dst, o);
+    } else {
+        let c = find_place(x + 1, 0, len, mode);
+        blend_element(src, c, b, b, c, start, stride, dst, o);
+    }
+}
+
+// Output y of a line of len elements.
+fn resize_element(
+    src: &[u8],
+    start: usize,
+    stride: usize,
+    len: usize,
+    dst: &mut [u8],
+    o: usize,
+    y: usize,
+    mode: EdgeMode,
+    kind: Resize,
+)
+    requires { ⌜ (y < 2 * sideRoom) × Room (now src) (now dst) start stride len o 1 ⌝ }
+    ensures { λ _. ⌜ Run (now (dst .entry)) (now (dst .exit)) o stride (λ k. passOf kind mode len (lane (now (src .entry)) start stride k) y) ⌝ }
+{
+    match kind {
+        Resize::Halve => halve_element(src, start, stride, len, dst, o, y, mode),
+        Resize::Double => double_element(src, start, stride, len, dst, o, y, mode),
+    }
+}
+
+// Outputs `from` up to `to` of a line of len elements.
+fn resize_part(
+    src: &[u8],
+    start: usize,
+    stride: usize,
+    len: usize,
+    dst: &mut [u8],
+    o: usize,
+    from: usize,
+    to: usize,
+    mode: EdgeMode,
+    kind: Resize,
+)
+    requires { ⌜ (from ≤ to) × (to ≤ 2 * sideRoom) × Room (now src) (now dst) start stride len o to ⌝ }
+    ensures { λ _. ⌜ Made kind mode (now (src .entry)) (now (dst .entry)) (now (dst .exit)) start stride len o from to ⌝ }
+{
+    let mut y: usize = from;
+    while y < to {
+        resize_element(src, start, stride, len, dst, o + y * stride, y, mode, kind);
+        y += 1;
+    }
+}
+
+// Output x of a row, halved, whose samples lie inside.
+fn halve_pixel(src: &[u8], start: usize, len: usize, dst: &mut [u8], o: usize, x: usize)
+    requires { ⌜ (0 < x) × (2 * x + 2 < len) × Room (now src) (now dst) start 4 len o (x + 1) ⌝ }
+    ensures { λ _. ⌜ MadeInside Resize.Halve (now (src .entry)) (now (dst .entry)) (now (dst .exit)) start len o x (x + 1) ⌝ }
+{
+    let p = read_pixel(src, start + (2 * x - 1) * 4);
+    let q = read_pixel(src, start + 2 * x * 4);
+    let r = read_pixel(src, start + (2 * x + 1) * 4);
+    let s = read_pixel(src, start + (2 * x + 2) * 4);
+    write_pixel(dst, o + x * 4, blend_pixels(p, q, r, s));
+}
+
+// Outputs 2x and 2x + 1 of a row, doubled, whose samples lie inside.
+fn double_pixel(src: &[u8], start: usize, len: usize, dst: &mut [u8], o: usize, x: usize)
+    requires { ⌜ (0 < x) × (x + 1 < len) × Room (now src) (now dst) start 4 len o (2 * x + 2) ⌝ }
+    ensures { λ _. ⌜ MadeInside Resize.Double (now (src .entry)) (now (dst .entry)) (now (dst .exit)) start len o (2 * x) (2 * x + 2) ⌝ }
+{
+    let p = read_pixel(src, start + (x - 1) * 4);
+    let q = read_pixel(src, start + x * 4);
+    let r = read_pixel(src, start + (x + 1) * 4);
+    write_pixel(dst, o + 2 * x * 4, blend_pixels(p, q, q, p));
+    write_pixel(dst, o + (2 * x + 1) * 4, blend_pixels(r, q, q, r));
+}
+
+// The first output of a row whose samples lie inside, ..
+fn inner_from(kind: Resize) -> usize
+    ensures { λ r. ⌜ r ≡ innerFrom kind ⌝ }
+{
+    match kind {
+        Resize::Halve => 1,
+        Resize::Double => 2,
+    }
+}
+
+// .. and the end of those outputs.
+fn inner_to(len: usize, kind: Resize) -> usize
+    requires { ⌜ (0 < len) × (len ≤ sideRoom) ⌝ }
+    ensures { λ r. ⌜ r ≡ innerTo kind len ⌝ }
+{
+    match kind {
+        Resize::Halve => (len - 1) / 2,
+        Resize::Double => 2 * len - 2,
+    }
+}
+
+fn halve_inner(src: &[u8], start: usize, len: usize, dst: &mut [u8], o: usize)
+    requires { ⌜ (2 < len) × Room (now src) (now dst) start 4 len o (innerTo Resize.Halve len) ⌝ }
+    ensures { λ _. ⌜ MadeInside Resize.Halve (now (src .entry)) (now (dst .entry)) (now (dst .exit)) start len o (innerFrom Resize.Halve) (innerTo Resize.Halve len) ⌝ }
+{
+    let mut x: usize = 1;
+    while 2 * x + 2 < len {
+        halve_pixel(src, start, len, dst, o, x);
+        x += 1;
+    }
+}
+
+fn double_inner(src: &[u8], start: usize, len: usize, dst: &mut [u8], o: usize)
+    requires { ⌜ (2 < len) × Room (now src) (now dst) start 4 len o (innerTo Resize.Double len) ⌝ }
+    ensures { λ _. ⌜ MadeInside Resize.Double (now (src .entry)) (now (dst .entry)) (now (dst .exit)) start len o (innerFrom Resize.Double) (innerTo Resize.Double len) ⌝ }
+{
+    let mut x: usize = 1;
+    while x + 1 < len {
+        double_pixel(src, start, len, dst, o, x);
+        x += 1;
+    }
+}
+
+// The outputs of a row whose samples lie inside.
+fn resize_inner(src: &[u8], start: usize, len: usize, dst: &mut [u8], o: usize, kind: Resize)
+    requires { ⌜ (2 < len) × Room (now src) (now dst) start 4 len o (innerTo kind len) ⌝ }
+    ensures { λ _. ⌜ MadeInside kind (now (src .entry)) (now (dst .entry)) (now (dst .exit)) start len o (innerFrom kind) (innerTo kind len) ⌝ }
+{
+    match kind {
+        Resize::Halve => halve_inner(src, start, len, dst, o),
+        Resize::Double => double_inner(src, start, len, dst, o),
+    }
+}
+
+// A row of at least three pixels: outputs at both ends by the edge rule, and those between with no test.
+fn resize_row(
+    src: &[u8],
+    start: usize,
+    len: usize,
+    dst: &mut [u8],
+    o: usize,
+    out: usize,
+    mode: EdgeMode,
+    kind: Resize,
+)
+    requires { ⌜ (2 < len) × Makes kind len out × Room (now src) (now dst) start 4 len o out ⌝ }
+    ensures { λ _. ⌜ Made kind mode (now (src .entry)) (now (dst .entry)) (now (dst .exit)) start 4 len o 0 out ⌝ }
+{
+    let from = inner_from(kind);
+    let to = inner_to(len, kind);
+    resize_part(src, start, 4, len, dst, o, 0, from, mode, kind);
+    resize_inner(src, start, len, dst, o, kind);
+    resize_part(src, start, 4, len, dst, o, to, out, mode, kind);
+}
+
+// A line: by the shorter way where it is a row of pixels.
+fn resize_line(
+    src: &[u8],
+    start: usize,
+    stride: usize,
+    len: usize,
+    dst: &mut [u8],
+    o: usize,
+    out: usize,
+    mode: EdgeMode,
+    kind: Resize,
+)
+    requires { ⌜ Makes kind len out × Room (now src) (now dst) start stride len o out ⌝ }
+    ensures { λ _. ⌜ Made kind mode (now (src .entry)) (now (dst .entry)) (now (dst .exit)) start stride len o 0 out ⌝ }
+{
+    if stride == 4 {
+        if 2 < len {
+            resize_row(src, start, len, dst, o, out, mode, kind);
+            return;
+        }
+    }
+    resize_part(src, start, stride, len, dst, o, 0, out, mode, kind);
+}
+
+// Each of `lines` lines of len elements made one of out elements. The rows of a picture are h lines of stride 4; its columns
+// are one line of stride 4w.
+pub fn resize_lines(
+    src: &[u8],
+    dst: &mut [u8],
+    lines: usize,
+    len: usize,
+    out: usize,
+    stride: usize,
+    mode: EdgeMode,
+    kind: Resize,
+)
+    requires { ⌜ Lines kind (now src) (now dst) lines len out stride ⌝ }
+    ensures { λ _. ⌜ now (dst .exit) ≡ passed (passOf kind mode) (now (src .entry)) lines len out stride ⌝ }
+{
+    let long = len * stride;
+    let short = out * stride;
+    let mut y: usize = 0;
+    while y < lines {
+        resize_line(src, y * long, stride, len, dst, y * short, out, mode, kind);
+        y += 1;
+    }
+}
+
+// A level of size s made one of size t: rows to scratch, then columns back.
+fn resize_level(
+    picture: &mut [u8],
+    scratch: &mut [u8],
+    s: LevelSize,
+    t: LevelSize,
+    mode: EdgeMode,
+    kind: Resize,
+)
+    requires { ⌜ Levels kind (now picture) (now scratch) s t ⌝ }
+    ensures { λ _. ⌜ take (levelBytes t) (now (picture .exit)) ≡ levelPass (passOf kind mode) s t (take (levelBytes s) (now (picture .entry))) ⌝ }
+{
+    let w = s.width();
+    let h = s.height();
+    let v = t.width();
+    let u = t.height();
+    let before = s.bytes();
+    let between = h * (v * 4);
+    let after = t.bytes();
+    resize_lines(
+        &picture[..before],
+        &mut scratch[..between],
+        h,
+        w,
+        v,
+        4,
+        mode,
+        kind,
+    );
+    resize_lines(
+        &scratch[..between],
+        &mut picture[..after],
+        1,
+        h,
+        u,
+        4 * v,
+        mode,
+        kind,
+    );
+}
+
+// The level of size s, halved: its bytes are the first of the picture.
+pub fn halve_level(picture: &mut [u8], scratch: &mut [u8], s: LevelSize, mode: EdgeMode)
+    requires { ⌜ Buffers (now picture) (now scratch) s ⌝ }
+    ensures { λ _. ⌜ take (levelBytes (halfLevel s)) (now (picture .exit)) ≡ levelPass (halve mode) s (halfLevel s) (now (picture .entry)) ⌝ }
+{
+    resize_level(picture, scratch, s, s.half(), mode, Resize::Halve);
+}
+
+// The half of the level of size s, doubled: its bytes are the first of the picture.
+pub fn double_level(picture: &mut [u8], scratch: &mut [u8], s: LevelSize, mode: EdgeMode)
+    requires { ⌜ Buffers (now picture) (now scratch) s ⌝ }
+    ensures { λ _. ⌜ now (picture .exit) ≡ levelPass (double mode) (halfLevel s) s (take (levelBytes (halfLevel s)) (now (picture .entry))) ⌝ }
+{
+    resize_level(picture, scratch, s.half(), s, mode, Resize::Double);
+}

@@ -1,0 +1,53 @@
+-- Laws of what a call leaves: the picture by its strength, the scratch cleared, and what no refusal says.
+use mathlib.Core.Path.{_≡_, _∙_, sym, ap}
+use mathlib.Core.Bool.{true, false}
+use mathlib.Core.List.{List, _++_}
+use Prim.Native.Nat.{ℕ, _≤_}
+use lib.Dec.{lit<}
+use lib.Ieee.{Float}
+use lib.ListN.{length, take, drop}
+use lib.Seq.{drop-at, length-take-le}
+use borrow.Author.Tests.{ltb-false, eqb-true, not-false}
+use Rattle.picture.specs.Planes.{cleared}
+use Rattle.picture.specs.Sizes.{levelSize}
+use Rattle.picture.specs.Refusal.{firstOf, wrongSides, wrongLength, tooShort}
+use Rattle.picture.specs.declared.EdgeMode.{EdgeMode}
+use Rattle.picture.proofs.Sizes.{full-sized}
+use Rattle.picture.proofs.Passed.{passed}
+use Rattle.gaussian_blur.specs.Blurred.{blurred}
+use Rattle.gaussian_blur.specs.Needs.{Accepted}
+use Rattle.gaussian_blur.specs.Outcome.{blurChecks, aboveZero, blurredOrKept}
+
+module _ (mode : EdgeMode) (weights : List Float) (n : ℕ) (strength : Float) (w h : ℕ) (p : List ℕ) where
+  pub blurs : aboveZero strength ≡ true → blurred mode weights n w h p ≡ blurredOrKept mode weights n strength w h p
+  unfolding blurredOrKept
+  blurs on = rw on
+
+  pub keeps : aboveZero strength ≡ false → p ≡ blurredOrKept mode weights n strength w h p
+  unfolding blurredOrKept
+  keeps off = rw off
+
+-- the first k bytes were lent and came back, and were cleared: nothing after them changed
+pub cleared-part : (k : ℕ) (work e : List ℕ) → k ≤ length work → length e ≡ length (take k work) → cleared k (e ++ drop k work) ≡ cleared k work
+unfolding cleared
+cleared-part k work e le len = rw (drop-at e (drop k work) k (len ∙ length-take-le k work le))
+
+-- no refusal: the sizes and the kernel are as the work needs them
+pub accepted : (p : List ℕ) (w h : ℕ) (s : List ℕ) (weights : List Float) (n : ℕ) (strength : Float) (edge : ℕ) →
+    0 ≡ firstOf (blurChecks (length p) w h (length s) weights n strength edge) → (wrongSides w h ≡ false) × Accepted (levelSize w h) p s weights
+unfolding wrongLength tooShort
+accepted p w h s weights n strength edge e =
+    let one = passed _ _ (lit< tt) e in
+    let two = passed _ _ (lit< tt) (one .1) in
+    let three = passed _ _ (lit< tt) (two .1) in
+    let four = passed _ _ (lit< tt) (three .1) in
+    let five = passed _ _ (lit< tt) (four .1) in (
+      one .0,
+      record {
+        sized = full-sized w h (one .0);
+        picture-is = eqb-true _ _ (not-false _ (two .0));
+        room = ltb-false _ _ (three .0);
+        count = four .0;
+        range = five .0;
+      },
+    )

@@ -1,0 +1,38 @@
+-- By the strength: blurred from level 0 on, or left alone.
+use mathlib.Core.Path.{_∙_}
+use lib.Ieee.{ofBits}
+use Rattle.gaussian_blur.proofs.Outcomes.{blurs, keeps}
+use borrow.Author.Needs.{needs}
+use Rattle.gaussian_blur.proofs.blur_or_keep.Statement.{statement}
+use Rattle.gaussian_blur.proofs.blur_or_keep.Tie as tie
+
+level-zero-requires : tie.Need-level-zero-requires
+level-zero-requires c κs = search needs
+
+apply-blur-requires : tie.Need-apply-blur-requires
+apply-blur-requires c κs = rw (c .level-zero .ensures) (c .before .before .before .before .before .before .before .pre)
+
+same-length : tie.Need-same-length
+same-length c = search needs
+
+same-length-2 : tie.Need-same-length-2
+same-length-2 c = search needs
+
+returns : tie.Need-returns
+unfolding ofBits
+returns c =
+    let v = c .before .before .before .before in
+    let a = v .before .before .before .before .before .before .before .before .args in
+    rw (v .before .level-zero .ensures) at (v .apply-blur .ensures)
+    ∙ blurs (a .mode) (a .weights .now) (a .n) (a .strength) (a .size .w) (a .size .h) (a .picture .now) (v .before .before .before .before .if1 .taken)
+
+returns-2 : tie.Need-returns-2
+unfolding ofBits
+returns-2 c =
+    let a = c .before .before .before .before .args in
+    keeps (a .mode) (a .weights .now) (a .n) (a .strength) (a .size .w) (a .size .h) (a .picture .now) (c .if1 .left)
+
+pub blur-or-keep-spec : {M : Type 1} → statement M
+blur-or-keep-spec =
+    tie.close
+    (tie.spec level-zero-requires apply-blur-requires same-length same-length-2 returns returns-2)
