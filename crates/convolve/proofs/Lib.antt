@@ -1,4 +1,7 @@
--- Laws of a kernel that the checks let through, and of a byte's place among lines.
-pub mod Kernel
-pub mod Split
-pub mod Levels
+-- Laws of a convolution in blocks.
+mod Progress
+mod Places
+mod Values
+mod Taps
+mod Bytes
+mod Lent

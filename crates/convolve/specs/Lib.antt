@@ -1,2 +1,3 @@
--- What the convolution asks of its buffers and its kernel.
-pub mod Needs
+-- The definitions that contracts cite of a convolution in blocks.
+pub mod Blocks
+pub mod Room

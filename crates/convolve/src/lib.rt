@@ -1,64 +1,267 @@
-// The convolution, plainly.
-use edges::At;
-use picture::EdgeMode;
-use picture::LevelSize;
+// The convolution of lines. Bytes are made floats once for a block of elements, summed there lane by lane
+// under each tap, and rounded. Edges are worked out as a block is filled, once for each element.
 ghost use mathlib.Core.Path.{_≡_};
-ghost use Prim.Native.Nat.{ℕ, _+_, _*_, _<_, _≤_};
-ghost use lib.ListN.{length};
-ghost use Rattle.picture.specs.Sizes.{sideRoom};
-ghost use Rattle.edges.specs.Edges.{sample};
+ghost use Prim.Native.Nat.{ℕ, _+_, _-_, _*_, _/_, _%_, _≤_, _<_, min};
+ghost use lib.Ieee.{nan};
+ghost use lib.ListN.{length, getD};
+ghost use Rattle.picture.specs.Sizes.{levelBytes, Sized};
+ghost use Rattle.edges.specs.Edges.{sample, Reach};
 ghost use Rattle.passes.specs.Passes.{convolve};
 ghost use Rattle.passes.specs.Levels.{levelPass};
 ghost use Rattle.passes.specs.Written.{lane, passed};
-ghost use Rattle.convolve.specs.Needs.{Kernel, Lines, Level};
+ghost use Rattle.lanes.specs.Lanes.{Span, widened};
+ghost use Rattle.convolve.specs.Blocks.{blockValue, lineByte, Made};
+ghost use Rattle.convolve.specs.Room.{Kernel, Source, Lines, whole, lanes, sumRoom, Buffers};
+use edges::At;
+use picture::EdgeMode;
+use picture::LevelSize;
 
-// The byte of lane k that the coordinate c - d reads; 0 outside.
-fn sample_lane(
+// Elements of at most this many bytes are taken whole, others in strips of at most so many lanes.
+const WHOLE: usize = 32;
+
+const LANES: usize = 128;
+
+// At most this many sums at a time, and the values under them.
+const SUMS: usize = 1024;
+
+const LINE: usize = (SUMS / WHOLE + picture::MAX_TAPS - 1) * LANES;
+
+fn least(a: usize, b: usize) -> usize
+    ensures { λ r. ⌜ r ≡ min a b ⌝ }
+{
+    if a < b { a } else { b }
+}
+
+// a - b, or 0 where b is more.
+fn excess(a: usize, b: usize) -> usize
+    ensures { λ r. ⌜ r ≡ a - b ⌝ }
+{
+    if b < a { a - b } else { 0 }
+}
+
+// n lanes, from lane `from` on, of the element that c - d reads: values from a on, and zeros where there is none.
+fn fill_element(
+    line: &mut [f32],
+    a: usize,
+    n: usize,
     src: &[u8],
     start: usize,
-    stride: usize,
     len: usize,
-    k: usize,
+    stride: usize,
+    from: usize,
     c: usize,
     d: usize,
     mode: EdgeMode,
-) -> u8
-    requires { ⌜ (0 < len) × (len ≤ sideRoom) × (k < stride) × (start + len * stride ≤ length (now src)) × (c < 1048576) × (d < 1048576) ⌝ }
-    ensures { λ r. ⌜ r ≡ sample mode len (lane (now (src .entry)) start stride k) c d ⌝ }
+)
+    requires { ⌜ a + n ≤ length (now line) ⌝ ∗ ⌜ from + n ≤ stride ⌝ ∗ ⌜ start + len * stride ≤ length (now src) ⌝ ∗ ⌜ Reach len c d ⌝ }
+    ensures { λ _. ⌜ Span nan (now (line .entry)) (now (line .exit)) a (a + n) (λ t. widened (sample mode len (lane (now (src .entry)) start stride (from + (t - a))) c d)) ⌝ }
 {
-    let p = edges::extend(c, d, len, mode);
-    match p {
-        At::Inside(i) => src[start + i * stride + k],
-        At::Outside => 0,
+    match edges::extend(c, d, len, mode) {
+        At::Inside(i) => lanes::widen(line, a, n, src, start + i * stride + from),
+        At::Outside => lanes::clear(line, a, n),
     }
 }
 
-// Output x of lane k of a line.
-fn convolve_at(
+// Elements `first` up to `last` of a block, n lanes of each.
+fn fill(
+    line: &mut [f32],
+    n: usize,
+    first: usize,
+    last: usize,
     src: &[u8],
     start: usize,
-    stride: usize,
     len: usize,
-    k: usize,
+    stride: usize,
+    from: usize,
     x: usize,
-    weights: &[f32],
+    d: usize,
     mode: EdgeMode,
-) -> u8
-    requires { ⌜ (0 < len) × (len ≤ sideRoom) × (k < stride) × (start + len * stride ≤ length (now src)) × (x < len) × Kernel (now weights) ⌝ }
-    ensures { λ r. ⌜ r ≡ convolve mode (now (weights .entry)) len (lane (now (src .entry)) start stride k) x ⌝ }
+)
+    requires { ⌜ (first ≤ last) × (last * n ≤ length (now line)) ⌝ ∗ ⌜ from + n ≤ stride ⌝ ∗ ⌜ start + len * stride ≤ length (now src) ⌝ ∗ ⌜ Reach len (x + last) d ⌝ }
+    ensures { λ _. ⌜ Made nan (blockValue mode (now (src .entry)) start len stride from n x d) (λ t. (first * n ≤ t) × (t < last * n)) (now (line .entry)) (now (line .exit)) ⌝ }
 {
-    let half = weights.len() / 2;
-    let mut acc: f32 = 0.0;
-    let mut j = 0;
-    while j < weights.len() {
-        let p = sample_lane(src, start, stride, len, k, x + j, half, mode);
-        acc = acc + (p as f32) * weights[j];
-        j += 1;
+    let mut e = first;
+    while e < last {
+        fill_element(line, e * n, n, src, start, len, stride, from, x + e, d, mode);
+        e += 1;
     }
-    binary32::round_channel(acc)
 }
 
-// Each of the lines of len elements, convolved.
+// A block of `count` whole elements, of which those inside lie in one run.
+fn fill_whole(
+    line: &mut [f32],
+    count: usize,
+    src: &[u8],
+    start: usize,
+    len: usize,
+    stride: usize,
+    x: usize,
+    d: usize,
+    mode: EdgeMode,
+)
+    requires { ⌜ (x < len) × (d < count) × (0 < stride) ⌝ ∗ ⌜ count * stride ≤ length (now line) ⌝ ∗ ⌜ start + len * stride ≤ length (now src) ⌝ ∗ ⌜ Reach len (x + count) d ⌝ }
+    ensures { λ _. ⌜ Made nan (blockValue mode (now (src .entry)) start len stride 0 stride x d) (λ t. t < count * stride) (now (line .entry)) (now (line .exit)) ⌝ }
+{
+    let low = excess(d, x);
+    let high = least(count, len + d - x);
+    fill(line, stride, 0, low, src, start, len, stride, 0, x, d, mode);
+    lanes::widen(line, low * stride, (high - low) * stride, src, start + (x + low - d) * stride);
+    fill(line, stride, high, count, src, start, len, stride, 0, x, d, mode);
+}
+
+// Outputs x up to x + m of a line, whose elements are taken whole.
+fn convolve_whole(
+    line: &mut [f32],
+    acc: &mut [f32],
+    src: &[u8],
+    start: usize,
+    dst: &mut [u8],
+    len: usize,
+    stride: usize,
+    x: usize,
+    m: usize,
+    weights: &[f32],
+    mode: EdgeMode,
+)
+    requires { ⌜ Source (now src) (now weights) start len stride ⌝ ∗ ⌜ (0 < m) × (x + m ≤ len) ⌝ ∗ ⌜ len * stride ≤ length (now dst) ⌝
+        ∗ ⌜ (m + length (now weights) - 1) * stride ≤ length (now line) ⌝ ∗ ⌜ m * stride ≤ length (now acc) ⌝ }
+    ensures { λ _. ⌜ Made 0 (lineByte mode (now (weights .entry)) (now (src .entry)) start len stride) (λ j. (x ≤ j / stride) × (j / stride < x + m)) (now (dst .entry)) (now (dst .exit)) ⌝ }
+{
+    let taps = weights.len();
+    fill_whole(line, m + taps - 1, src, start, len, stride, x, taps / 2, mode);
+    lanes::weigh(dst, x * stride, m * stride, acc, line, 0, stride, weights);
+}
+
+// n lanes of them, from lane `from` on.
+fn convolve_strip(
+    line: &mut [f32],
+    acc: &mut [f32],
+    src: &[u8],
+    start: usize,
+    dst: &mut [u8],
+    len: usize,
+    stride: usize,
+    x: usize,
+    m: usize,
+    from: usize,
+    n: usize,
+    weights: &[f32],
+    mode: EdgeMode,
+)
+    requires { ⌜ Source (now src) (now weights) start len stride ⌝ ∗ ⌜ (0 < m) × (x + m ≤ len) ⌝ ∗ ⌜ len * stride ≤ length (now dst) ⌝
+        ∗ ⌜ (m + length (now weights) - 1) * n ≤ length (now line) ⌝ ∗ ⌜ (0 < n) × (from + n ≤ stride) × (n ≤ length (now acc)) ⌝ }
+    ensures { λ _. ⌜ Made 0 (lineByte mode (now (weights .entry)) (now (src .entry)) start len stride) (λ j. (x ≤ j / stride) × (j / stride < x + m) × (from ≤ j % stride) × (j % stride < from + n)) (now (dst .entry)) (now (dst .exit)) ⌝ }
+{
+    let taps = weights.len();
+    fill(line, n, 0, m + taps - 1, src, start, len, stride, from, x, taps / 2, mode);
+    let mut i = 0;
+    while i < m {
+        lanes::weigh(dst, (x + i) * stride + from, n, acc, line, i * n, n, weights);
+        i += 1;
+    }
+}
+
+// All lanes of them, strip by strip.
+fn convolve_strips(
+    line: &mut [f32],
+    acc: &mut [f32],
+    src: &[u8],
+    start: usize,
+    dst: &mut [u8],
+    len: usize,
+    stride: usize,
+    x: usize,
+    m: usize,
+    weights: &[f32],
+    mode: EdgeMode,
+)
+    requires { ⌜ Source (now src) (now weights) start len stride ⌝ ∗ ⌜ (0 < m) × (x + m ≤ len) ⌝ ∗ ⌜ len * stride ≤ length (now dst) ⌝
+        ∗ ⌜ (m + length (now weights) - 1) * lanes ≤ length (now line) ⌝ ∗ ⌜ lanes ≤ length (now acc) ⌝ }
+    ensures { λ _. ⌜ Made 0 (lineByte mode (now (weights .entry)) (now (src .entry)) start len stride) (λ j. (x ≤ j / stride) × (j / stride < x + m)) (now (dst .entry)) (now (dst .exit)) ⌝ }
+{
+    let mut from = 0;
+    while from < stride {
+        let n = least(LANES, stride - from);
+        convolve_strip(line, acc, src, start, dst, len, stride, x, m, from, n, weights, mode);
+        from += n;
+    }
+}
+
+// Outputs x up to x + m, whole or in strips.
+fn convolve_block(
+    line: &mut [f32],
+    acc: &mut [f32],
+    src: &[u8],
+    start: usize,
+    dst: &mut [u8],
+    len: usize,
+    stride: usize,
+    x: usize,
+    m: usize,
+    weights: &[f32],
+    mode: EdgeMode,
+)
+    requires { ⌜ Source (now src) (now weights) start len stride ⌝ ∗ ⌜ (0 < m) × (x + m ≤ len) ⌝ ∗ ⌜ len * stride ≤ length (now dst) ⌝
+        ∗ ⌜ m * min stride whole ≤ sumRoom ⌝ ∗ ⌜ Buffers (now line) (now acc) ⌝ }
+    ensures { λ _. ⌜ Made 0 (lineByte mode (now (weights .entry)) (now (src .entry)) start len stride) (λ j. (x ≤ j / stride) × (j / stride < x + m)) (now (dst .entry)) (now (dst .exit)) ⌝ }
+{
+    if stride <= WHOLE {
+        convolve_whole(line, acc, src, start, dst, len, stride, x, m, weights, mode);
+    } else {
+        convolve_strips(line, acc, src, start, dst, len, stride, x, m, weights, mode);
+    }
+}
+
+// A line, block by block.
+fn convolve_line(
+    line: &mut [f32],
+    acc: &mut [f32],
+    src: &[u8],
+    start: usize,
+    dst: &mut [u8],
+    len: usize,
+    stride: usize,
+    weights: &[f32],
+    mode: EdgeMode,
+)
+    requires { ⌜ Source (now src) (now weights) start len stride ⌝ ∗ ⌜ len * stride ≤ length (now dst) ⌝ ∗ ⌜ Buffers (now line) (now acc) ⌝ }
+    ensures { λ _. ⌜ ((j : ℕ) → j < len * stride → getD (now (dst .exit)) j 0 ≡ lineByte mode (now (weights .entry)) (now (src .entry)) start len stride j) ⌝ }
+{
+    let most = SUMS / least(stride, WHOLE);
+    let mut x = 0;
+    while x < len {
+        let m = least(most, len - x);
+        convolve_block(line, acc, src, start, dst, len, stride, x, m, weights, mode);
+        x += m;
+    }
+}
+
+// Line after line.
+fn each_line(
+    line: &mut [f32],
+    acc: &mut [f32],
+    src: &[u8],
+    dst: &mut [u8],
+    lines: usize,
+    len: usize,
+    stride: usize,
+    weights: &[f32],
+    mode: EdgeMode,
+)
+    requires { ⌜ Lines (now src) (now dst) (now weights) lines len stride ⌝ ∗ ⌜ Buffers (now line) (now acc) ⌝ }
+    ensures { λ _. ⌜ now (dst .exit) ≡ passed (convolve mode (now (weights .entry))) (now (src .entry)) lines len len stride ⌝ }
+{
+    let mut y = 0;
+    while y < lines {
+        let size = len * stride;
+        let o = y * size;
+        convolve_line(line, acc, src, o, &mut dst[o..o + size], len, stride, weights, mode);
+        y += 1;
+    }
+}
+
+// Each of `lines` lines of len elements of stride bytes, convolved. The rows of a picture are h lines of w
+// pixels; its columns are one line of h rows.
 pub fn convolve_lines(
     src: &[u8],
     dst: &mut [u8],
@@ -68,29 +271,15 @@ pub fn convolve_lines(
     weights: &[f32],
     mode: EdgeMode,
 )
-    requires { ⌜ Lines (length (now src)) (length (now dst)) lines len stride × Kernel (now weights) ⌝ }
+    requires { ⌜ Lines (now src) (now dst) (now weights) lines len stride ⌝ }
     ensures { λ _. ⌜ now (dst .exit) ≡ passed (convolve mode (now (weights .entry))) (now (src .entry)) lines len len stride ⌝ }
 {
-    let line = len * stride;
-    let mut i = 0;
-    while i < dst.len() {
-        let start = i / line * line;
-        let at = i % line;
-        dst[i] = convolve_at(
-            src,
-            start,
-            stride,
-            len,
-            at % stride,
-            at / stride,
-            weights,
-            mode,
-        );
-        i += 1;
-    }
+    let mut line = [0.0f32; LINE];
+    let mut acc = [0.0f32; SUMS];
+    each_line(&mut line, &mut acc, src, dst, lines, len, stride, weights, mode);
 }
 
-// Rows to scratch, then columns back.
+// A level convolved: rows to scratch, then columns back.
 pub fn convolve_level(
     picture: &mut [u8],
     scratch: &mut [u8],
@@ -98,7 +287,7 @@ pub fn convolve_level(
     weights: &[f32],
     mode: EdgeMode,
 )
-    requires { ⌜ Level s (length (now picture)) (length (now scratch)) × Kernel (now weights) ⌝ }
+    requires { ⌜ Sized s ⌝ ∗ ⌜ length (now picture) ≡ levelBytes s ⌝ ∗ ⌜ length (now scratch) ≡ levelBytes s ⌝ ∗ ⌜ Kernel (now weights) ⌝ }
     ensures { λ _. ⌜ now (picture .exit) ≡ levelPass (convolve mode (now (weights .entry))) s s (now (picture .entry)) ⌝ }
 {
     let w = s.width();

@@ -1,11 +1,20 @@
-use mathlib.Core.Path.{_∙_}
-use Rattle.picture.proofs.Sizes.{room-is}
-use Rattle.passes.specs.Passes.{convolve}
-use Rattle.passes.proofs.Local.{convolve-local}
-use Rattle.passes.proofs.Levels.{level-passed}
+-- Rows to scratch and columns back are the pass of a level.
+use mathlib.Core.Path.{_≡_, _∙_}
+use mathlib.Core.List.{List}
+use Prim.Native.Nat.{ℕ, _*_}
+use native.Mathlib.Nat.{mul-comm, mul-assoc, mul-left-comm, one-mul}
 use native.Mathlib.Omega.{arith}
 use borrow.Author.Needs.{needs}
-use Rattle.convolve.proofs.Levels.{rows, cols}
+use lib.ListN.{length}
+use denote.Ref.{now}
+use Rattle.picture.specs.Sizes.{levelBytes, Sized}
+use Rattle.picture.specs.declared.LevelSize.{LevelSize}
+use Rattle.picture.proofs.Sizes.{room-is}
+use Rattle.passes.specs.Passes.{Pass, convolve}
+use Rattle.passes.specs.Levels.{levelPass}
+use Rattle.passes.specs.Written.{passed}
+use Rattle.passes.proofs.Levels.{level-passed}
+use Rattle.passes.proofs.Local.{Local, convolve-local}
 use Rattle.convolve.proofs.convolve_level.Statement.{statement}
 use Rattle.convolve.proofs.convolve_level.Tie as tie
 
@@ -15,25 +24,49 @@ width-requires c κs = search needs
 height-requires : tie.Need-height-requires
 height-requires c κs = search needs
 
+-- the bytes of a level, as its rows and as its columns
+rows-size : (s : LevelSize) (w h n : ℕ) → w ≡ s .w → h ≡ s .h → n ≡ levelBytes s → n ≡ h * (w * 4)
+rows-size s w h n ew eh e = rw (ew, eh) (e ∙ omega (arith, mul-comm (s .w) (s .h), mul-assoc (s .h) (s .w) 4))
+
+cols-size : (s : LevelSize) (w h n : ℕ) → w ≡ s .w → h ≡ s .h → n ≡ levelBytes s → n ≡ 1 * (h * (4 * w))
+cols-size s w h n ew eh e = rw (ew, eh) (e ∙ omega (arith, mul-comm (s .w) (s .h), mul-left-comm (s .h) 4 (s .w), one-mul (s .h * (4 * s .w))))
+
 convolve-lines-requires : tie.Need-convolve-lines-requires
 convolve-lines-requires c κs =
-    let st = c .before .before .before .before .before .before .before in
-    let p = st .pre .0 in
-    rw (c .before .before .height .ensures, c .before .before .before .width .ensures) (rows (st .args .s) (p .sized) (p .picture-is) (p .scratch-is), st .pre .1)
+    let t = c .before .before in
+    let s = t .before .before .before .before .before in
+    let ew = t .before .width .ensures in
+    let eh = t .height .ensures in
+    let size = rows-size (s .args .s) (t .before .width .result) (t .height .result) in
+    record {
+      kernel = s .pre .1 .1 .1;
+      len-high = omega (arith, ew, s .pre .0 .w-high);
+      stride-low = omega arith;
+      src-size = size _ ew eh (s .pre .1 .0);
+      dst-size = size _ ew eh (s .pre .1 .1 .0);
+    }
 
 mul-convolve-lines : tie.Need-mul-convolve-lines
 mul-convolve-lines c =
-    let h = c .before .before .before .before .before .before .before in
-    let st = h .before .before .before .before .before in
-    omega (arith, h .before .width .ensures, st .pre .0 .sized .w-high, room-is)
+    let w = c .before .before .before .before .before .before .before .before in
+    let s = w .before .before .before .before in
+    omega (arith, w .width .ensures, s .pre .0 .w-high, room-is)
 
 convolve-lines-requires-2 : tie.Need-convolve-lines-requires-2
 convolve-lines-requires-2 c κs =
-    let l = c .before .before .before .before in
-    let h = l .before .before .before in
-    let st = h .before .before .before .before .before in
-    let p = st .pre .0 in
-    rw (h .height .ensures, h .before .width .ensures) (cols (st .args .s) (p .sized) (l .convolve-lines .kept .1 .0 ∙ p .scratch-is) (p .picture-is), st .pre .1)
+    let r = c .before .before .before .before in
+    let t = r .before .before .before in
+    let s = t .before .before .before .before .before in
+    let ew = t .before .width .ensures in
+    let eh = t .height .ensures in
+    let size = cols-size (s .args .s) (t .before .width .result) (t .height .result) in
+    record {
+      kernel = s .pre .1 .1 .1;
+      len-high = omega (arith, eh, s .pre .0 .h-high);
+      stride-low = omega (arith, ew, s .pre .0 .w-low);
+      src-size = size _ ew eh (r .convolve-lines .kept .1 .0 ∙ s .pre .1 .1 .0);
+      dst-size = size _ ew eh (s .pre .1 .0);
+    }
 
 same-length : tie.Need-same-length
 same-length c = search needs
@@ -41,15 +74,18 @@ same-length c = search needs
 same-length-2 : tie.Need-same-length-2
 same-length-2 c = search needs
 
+level-is : (f : Pass) → Local f → (s : LevelSize) → Sized s → (w h : ℕ) (src mid out : List ℕ) → w ≡ s .w → h ≡ s .h →
+    mid ≡ passed f src h w w 4 → out ≡ passed f mid 1 h h (4 * w) → out ≡ levelPass f s s src
+level-is f l s z w h src mid out ew eh a b = b ∙ rw (a, ew, eh) (level-passed f l s s z src)
+
 returns : tie.Need-returns
 returns c =
-    let two = c .before .before in
-    let one = two .before .before .before .before .before in
-    let h = one .before .before .before in
-    let st = h .before .before .before .before .before in
-    let a = st .args in
-    rw (two .convolve-lines2 .ensures, one .convolve-lines .ensures, h .height .ensures, h .before .width .ensures)
-    (level-passed (convolve (a .mode) (a .weights .now)) (convolve-local (a .mode) (a .weights .now)) (a .s) (a .s) (st .pre .0 .sized) (a .picture .now))
+    let q = c .before .before in
+    let r = q .before .before .before .before .before in
+    let t = r .before .before .before in
+    let s = t .before .before .before .before .before in
+    let a = s .args in
+    level-is (convolve (a .mode) (now (a .weights))) (convolve-local (a .mode) (now (a .weights))) (a .s) (s .pre .0) _ _ (now (a .picture)) _ _ (t .before .width .ensures) (t .height .ensures) (r .convolve-lines .ensures) (q .convolve-lines2 .ensures)
 
 pub convolve-level-spec : {M : Type 1} → statement M
 convolve-level-spec =

@@ -49,7 +49,7 @@ module _ (t : ℕ) where
   convolve-level-requires : lts.Need-convolve-level-requires (calls t) (at t) apply-blur.Post
   convolve-level-requires c κs =
       let r = c .before .before .before .before .before .before .pre .1 in
-      (record { sized = r .sized; picture-is = r .picture-is; scratch-is = r .scratch-is }, record { count = r .count; range = r .range })
+      (r .sized, (r .picture-is, (r .scratch-is, record { counted = r .count; inUnit = r .range })))
 
   half-requires : lts.Need-half-requires (calls t) (at t) apply-blur.Post
   half-requires c κs = c .before .before .before .before .pre .1 .sized

@@ -1,0 +1,98 @@
+-- Each turn makes the bytes of one block more.
+use mathlib.Core.Path.{_≡_, refl, _∙_}
+use Prim.Native.Nat.{ℕ, _+_, _-_, _*_, _/_, _≤_, _<_, min}
+use native.Mathlib.Nat.{div-lt-iff-lt-mul}
+use native.Mathlib.Omega.{arith}
+use borrow.Author.Needs.{needs}
+use lib.ListN.{length}
+use denote.Ref.{now}
+use Rattle.convolve.specs.Blocks.{lineByte, Made}
+use Rattle.convolve.specs.Room.{whole, sumRoom}
+use Rattle.convolve.proofs.Progress.{made-none, made-join}
+use Rattle.convolve.proofs.Taps.{block-size}
+use Rattle.convolve.proofs.convolve_line.Statement.{statement}
+use Rattle.convolve.proofs.convolve_line.Tie as tie
+
+abbrev Inv-loop : tie.InvT-loop
+Inv-loop line₀ acc₀ src start dst₀ len stride weights mode most x₀ line acc dst x =
+    (x ≤ len)
+    × (length line ≡ length line₀)
+    × (length acc ≡ length acc₀)
+    × (length dst ≡ length dst₀)
+    × Made 0 (lineByte mode weights src start len stride) (λ j. j / stride < x) dst₀ dst
+
+abbrev μ-loop : tie.MeasureT-loop
+μ-loop line₀ acc₀ src start dst₀ len stride weights mode most x₀ line acc dst x = len - x
+
+-- where the function starts, from the loop's head
+abbrev start : tie.At-loop Inv-loop μ-loop → tie.Start Inv-loop μ-loop
+start l = l .before .before .before .before .before .before .before
+
+div-most : tie.Need-div-most Inv-loop μ-loop
+div-most c = omega (arith, c .least .ensures, c .before .before .before .before .before .before .pre .0 .stride-low)
+
+loop-holds : tie.Need-loop-holds Inv-loop μ-loop
+loop-holds c = (omega arith, refl, refl, refl, made-none (λ j r. omega arith))
+
+-- the elements of a turn
+size : (c : tie.After-least2 Inv-loop μ-loop) →
+    let l = c .before .before in
+    let m = c .least2 .result in (0 < m) × (l .loop .x + m ≤ start l .args .len) × (m * min (start l .args .stride) whole ≤ sumRoom)
+size c =
+    let l = c .before .before in
+    let s = start l in
+    block-size (s .args .stride) (l .before .least .result) (s .args .len) (l .loop .x) (c .least2 .result) (s .pre .0 .stride-low) (l .before .least .ensures) (c .before .loop-test .taken) (c .least2 .ensures)
+
+convolve-block-requires : tie.Need-convolve-block-requires Inv-loop μ-loop
+convolve-block-requires c κs =
+    let t = c .before .before .before in
+    let l = t .before .before in
+    let s = start l in
+    let i = l .loop .inv in
+    let n = size t in
+    let b = s .pre .1 .1 in
+    (s .pre .0, ((n .0, n .1), (omega (arith, s .pre .1 .0, i .3), (n .2, record { line-size = i .1 ∙ b .line-size; acc-size = i .2 ∙ b .acc-size }))))
+
+loop-again : tie.Need-loop-again Inv-loop μ-loop
+loop-again c =
+    let w = c .before .before .before .before .before .before in
+    let t = w .before .before .before .before in
+    let l = t .before .before in
+    let i = l .loop .inv in
+    let k = w .convolve-block .kept in
+    (size t .1, k .0 ∙ i .1, k .1 .0 ∙ i .2, k .1 .1 .1 .1 .0 ∙ i .3,
+    made-join (λ j. j / start l .args .stride) (l .loop .x) (i .4) (w .convolve-block .ensures) (λ j r u. u) (λ j r u. (u, r)))
+
+same-length : tie.Need-same-length Inv-loop μ-loop
+same-length c = c .before .loop .inv .1
+
+same-length-2 : tie.Need-same-length-2 Inv-loop μ-loop
+same-length-2 c = c .before .loop .inv .2
+
+same-length-3 : tie.Need-same-length-3 Inv-loop μ-loop
+same-length-3 c = c .before .loop .inv .3
+
+returns : tie.Need-returns Inv-loop μ-loop
+returns c =
+    let l = c .before in
+    λ j h. l .loop .inv .4 .makes j (omega (arith, c .loop-test .left, div-lt-iff-lt-mul (start l .pre .0 .stride-low) .1 h))
+
+pub convolve-line-spec : {M : Type 1} → statement M
+convolve-line-spec =
+    tie.close
+    (tie.spec
+    Inv-loop
+    μ-loop
+    (λ c κs. search needs)
+    div-most
+    loop-holds
+    (λ c. omega arith)
+    (λ c κs. search needs)
+    convolve-block-requires
+    (λ c. omega (arith, size (c .before .before .before .before .before .before .before .before .before .before)))
+    (λ c. omega (arith, size (c .before .before .before .before .before .before .before .before .before .before)))
+    loop-again
+    same-length
+    same-length-2
+    same-length-3
+    returns)

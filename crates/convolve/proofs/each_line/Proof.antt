@@ -1,0 +1,129 @@
+-- Each turn makes one line more, in the part of dst that it is lent.
+use mathlib.Core.Path.{_≡_, refl, _∙_}
+use Prim.Native.Nat.{ℕ, _+_, _-_, _*_, _≤_, _<_, _^_}
+use native.Mathlib.Nat.{zero-add}
+use native.Mathlib.Omega.{arith}
+use borrow.Rule.Slice.PartMut.{same-len-mid}
+use lib.ListN.{length, length-take, length-drop}
+use denote.Ref.{now}
+use Rattle.passes.specs.Passes.{convolve}
+use Rattle.passes.specs.Written.{Part}
+use Rattle.passes.proofs.Written.{within, lineOf, part-none, part-one, part-join, part-passed}
+use Rattle.convolve.proofs.Lent.{run-back}
+use Rattle.convolve.proofs.each_line.Statement.{statement}
+use Rattle.convolve.proofs.each_line.Tie as tie
+
+abbrev Inv-loop : tie.InvT-loop
+Inv-loop line₀ acc₀ src dst₀ lines len stride weights mode y₀ line acc dst y =
+    (y ≤ lines)
+    × (length line ≡ length line₀)
+    × (length acc ≡ length acc₀)
+    × (length dst ≡ length dst₀)
+    × Part dst₀ dst 0 0 y (len * stride) (λ y k. lineOf (convolve mode weights) src (y * (len * stride)) len stride k)
+
+abbrev μ-loop : tie.MeasureT-loop
+μ-loop line₀ acc₀ src dst₀ lines len stride weights mode y₀ line acc dst y = lines - y
+
+-- where the function starts, from the loop's head
+abbrev start : tie.At-loop Inv-loop μ-loop → tie.Start Inv-loop μ-loop
+start l = l .before .before .before .before .before .before
+
+loop-holds : tie.Need-loop-holds Inv-loop μ-loop
+loop-holds c = (omega arith, refl, refl, refl, part-none)
+
+-- line y ends where they all do, at the latest
+ends : (c : tie.In-loop Inv-loop μ-loop) →
+    let a = start (c .before) .args in c .before .loop .y * (a .len * a .stride) + a .len * a .stride ≤ a .lines * (a .len * a .stride)
+ends c =
+    let l = c .before in
+    let a = start l .args in
+    omega (arith, within 0 (a .len * a .stride) (l .loop .y) (a .lines) (c .loop-test .taken))
+
+fits : (l : tie.At-loop Inv-loop μ-loop) → length (now (start l .args .dst)) < 2 ^ 64
+fits l = start l .good .1 .1 .1 .0 .0
+
+mul-size : tie.Need-mul-size Inv-loop μ-loop
+mul-size c = omega (arith, ends c, start (c .before) .pre .0 .dst-size, fits (c .before))
+
+mul-o : tie.Need-mul-o Inv-loop μ-loop
+mul-o c = omega (arith, ends c, start (c .before) .pre .0 .dst-size, fits (c .before))
+
+add-convolve-line : tie.Need-add-convolve-line Inv-loop μ-loop
+add-convolve-line c =
+    let t = c .before .before in
+    omega (arith, ends t, start (t .before) .pre .0 .dst-size, fits (t .before))
+
+part-convolve-line-start : tie.Need-part-convolve-line-start Inv-loop μ-loop
+part-convolve-line-start c = omega arith
+
+part-convolve-line-end : tie.Need-part-convolve-line-end Inv-loop μ-loop
+part-convolve-line-end c =
+    let t = c .before .before in
+    let l = t .before in
+    omega (arith, ends t, start l .pre .0 .dst-size, l .loop .inv .3)
+
+convolve-line-requires : tie.Need-convolve-line-requires Inv-loop μ-loop
+convolve-line-requires c κs =
+    let t = c .before .before .before in
+    let l = t .before in
+    let p = start l .pre .0 in
+    let b = start l .pre .1 in
+    let i = l .loop .inv in
+    let e = ends t in
+    (record { kernel = p .kernel; len-high = p .len-high; stride-low = p .stride-low; end = omega (arith, p .src-size) },
+    (simp (length-take, length-drop) (omega (arith, p .dst-size)), record { line-size = i .1 ∙ b .line-size; acc-size = i .2 ∙ b .acc-size }))
+
+loop-again : tie.Need-loop-again Inv-loop μ-loop
+loop-again c =
+    let w = c .before .before .before .before .before .before in
+    let t = w .before .before .before .before in
+    let l = t .before in
+    let s = start l in
+    let a = s .args in
+    let i = l .loop .inv in
+    let k = w .convolve-line .kept in
+    let n = a .len * a .stride in
+    let o = l .loop .y * n in
+    let part = w .convolve-line .last .1 .1 .1 .1 .0 in
+    let room : o + n ≤ length (l .loop .dst) = omega (arith, ends t, s .pre .0 .dst-size, i .3) in
+    let long : length part ≡ n = k .1 .1 .1 .1 .0 ∙ simp (length-take, length-drop) (omega arith) in
+    (omega arith, k .0 ∙ i .1, k .1 .0 ∙ i .2, same-len-mid o (o + n - o) (l .loop .dst) part (k .1 .1 .1 .1 .0) ∙ i .3,
+    part-join (omega arith) (omega arith) (i .4) (part-one (run-back (l .loop .dst) part o n _ room long (w .convolve-line .ensures) (zero-add o))))
+
+same-length : tie.Need-same-length Inv-loop μ-loop
+same-length c = c .before .loop .inv .1
+
+same-length-2 : tie.Need-same-length-2 Inv-loop μ-loop
+same-length-2 c = c .before .loop .inv .2
+
+same-length-3 : tie.Need-same-length-3 Inv-loop μ-loop
+same-length-3 c = c .before .loop .inv .3
+
+returns : tie.Need-returns Inv-loop μ-loop
+returns c =
+    let l = c .before in
+    let a = start l .args in
+    let e : l .loop .y ≡ a .lines = omega arith in
+    part-passed (convolve (a .mode) (now (a .weights))) (now (a .src)) (a .lines) (a .len) (a .len) (a .stride) (l .loop .inv .3 ∙ start l .pre .0 .dst-size) (rw e at (l .loop .inv .4))
+
+pub each-line-spec : {M : Type 1} → statement M
+each-line-spec =
+    tie.close
+    (tie.spec
+    Inv-loop
+    μ-loop
+    loop-holds
+    mul-size
+    mul-o
+    add-convolve-line
+    (λ c. omega arith)
+    part-convolve-line-start
+    part-convolve-line-end
+    convolve-line-requires
+    (λ c. omega arith)
+    (λ c. omega arith)
+    loop-again
+    same-length
+    same-length-2
+    same-length-3
+    returns)

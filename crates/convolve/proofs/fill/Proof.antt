@@ -1,0 +1,77 @@
+-- Each turn makes the values of one element more.
+use mathlib.Core.Path.{_≡_, refl, ap, _∙_}
+use Prim.Native.Nat.{ℕ, _+_, _-_, _*_, _≤_, _<_}
+use native.Mathlib.Nat.{add-mul, one-mul}
+use native.Mathlib.Omega.{arith}
+use lib.Ieee.{nan}
+use lib.ListN.{length}
+use denote.Ref.{now}
+use Rattle.passes.proofs.Written.{within}
+use Rattle.convolve.specs.Blocks.{blockValue, Made}
+use Rattle.convolve.proofs.Progress.{made-none, made-span, made-join}
+use Rattle.convolve.proofs.Places.{at-element}
+use Rattle.convolve.proofs.fill.Statement.{statement}
+use Rattle.convolve.proofs.fill.Tie as tie
+
+abbrev Inv-loop : tie.InvT-loop
+Inv-loop line₀ n first last src start len stride from x d mode e₀ line e =
+    (first ≤ e) × (e ≤ last) × (length line ≡ length line₀) × Made nan (blockValue mode src start len stride from n x d) (λ t. (first * n ≤ t) × (t < e * n)) line₀ line
+
+abbrev μ-loop : tie.MeasureT-loop
+μ-loop line₀ n first last src start len stride from x d mode e₀ line e = last - e
+
+loop-holds : tie.Need-loop-holds Inv-loop μ-loop
+loop-holds c = (omega arith, c .before .before .pre .0 .0, refl, made-none (λ t r. omega arith))
+
+-- the values of element e end within the line
+room : (c : tie.In-loop Inv-loop μ-loop) →
+    let a = c .before .before .before .before .args in c .before .loop .e * a .n + a .n ≤ length (c .before .loop .line)
+room c =
+    let l = c .before in
+    let s = l .before .before .before in
+    omega (arith, within 0 (s .args .n) (l .loop .e) (s .args .last) (c .loop-test .taken), s .pre .0 .1, l .loop .inv .2)
+
+mul-fill-element : tie.Need-mul-fill-element Inv-loop μ-loop
+mul-fill-element c = omega (arith, room (c .before))
+
+fill-element-requires : tie.Need-fill-element-requires Inv-loop μ-loop
+fill-element-requires c κs =
+    let s = c .before .before .before .before .before in
+    let r = s .pre .1 .1 .1 in
+    (room (c .before), (s .pre .1 .0, (s .pre .1 .1 .0, record { s-low = r .s-low; s-high = r .s-high; c-high = omega arith; d-high = r .d-high })))
+
+loop-again : tie.Need-loop-again Inv-loop μ-loop
+loop-again c =
+    let t = c .before .before in
+    let l = t .before .before .before in
+    let a = l .before .before .before .args in
+    let e = l .loop .e in
+    let n = a .n in
+    let next : (e + 1) * n ≡ e * n + n = omega (arith, add-mul e 1 n, one-mul n) in
+    (omega arith, omega arith, t .fill-element .kept .0 ∙ l .loop .inv .2,
+    made-join (λ k. k) (e * n) (l .loop .inv .3)
+    (made-span (t .fill-element .ensures) (λ k u v. let p = at-element n e k u v in rw (p .0, p .1)))
+    (λ k r u. omega arith)
+    (λ k r u. omega arith))
+
+same-length : tie.Need-same-length Inv-loop μ-loop
+same-length c = c .before .loop .inv .2
+
+returns : tie.Need-returns Inv-loop μ-loop
+returns c = let e : c .before .loop .e ≡ c .before .before .before .before .args .last = omega arith in rw e at (c .before .loop .inv .3)
+
+pub fill-spec : {M : Type 1} → statement M
+fill-spec =
+    tie.close
+    (tie.spec
+    Inv-loop
+    μ-loop
+    loop-holds
+    mul-fill-element
+    (λ c. omega arith)
+    fill-element-requires
+    (λ c. omega arith)
+    (λ c. omega arith)
+    loop-again
+    same-length
+    returns)

@@ -1,0 +1,36 @@
+-- What is rounded are the sums.
+use mathlib.Core.Path.{sym, subst, ap}
+use native.Mathlib.Omega.{arith}
+use borrow.Author.Needs.{needs}
+use lib.Dec.{T}
+use lib.Ieee.{Float}
+use Rattle.binary32.specs.Ranges.{nonneg}
+use Rattle.binary32.specs.Round.{toByte}
+use Rattle.lanes.proofs.Spans.{span-same}
+use Rattle.lanes.proofs.weigh.Statement.{statement}
+use Rattle.lanes.proofs.weigh.Tie as tie
+
+sums-requires : tie.Need-sums-requires
+sums-requires c κs = search needs
+
+round-lanes-requires : tie.Need-round-lanes-requires
+round-lanes-requires c κs =
+    let t = c .before .before .before .before in
+    let s = t .before .before .before .before .before .before in
+    (s .pre .0, (omega (arith, t .sums .kept .0, s .pre .1 .0), (λ i h. subst (λ (x : Float). T (nonneg x)) (sym (t .sums .ensures i h)) (s .pre .1 .1 .1 i h))))
+
+same-length : tie.Need-same-length
+same-length c = search needs
+
+same-length-2 : tie.Need-same-length-2
+same-length-2 c = search needs
+
+returns : tie.Need-returns
+returns c =
+    let t = c .before .before in
+    let s = t .before .before .before .before .before in
+    span-same (t .round-lanes .ensures) (λ j l h. ap toByte (s .sums .ensures _ (omega arith)))
+
+pub weigh-spec : {M : Type 1} → statement M
+weigh-spec =
+    tie.close (tie.spec sums-requires round-lanes-requires same-length same-length-2 returns)

@@ -1,0 +1,117 @@
+// Loops over lanes: bytes made floats, weighted sums of floats, and sums made bytes.
+ghost use mathlib.Core.Path.{_≡_};
+ghost use Prim.Native.Nat.{ℕ, _+_, _-_, _*_, _≤_, _<_};
+ghost use lib.Dec.{T};
+ghost use lib.Ieee.{nan};
+ghost use lib.ListN.{length, getD};
+ghost use Rattle.binary32.specs.Ranges.{zero32, nonneg};
+ghost use Rattle.binary32.specs.Round.{toByte};
+ghost use Rattle.lanes.specs.Lanes.{Span, widened, plus, laneSum, Reaches};
+
+// n bytes from s on, as floats from a on.
+pub fn widen(line: &mut [f32], a: usize, n: usize, src: &[u8], s: usize)
+    requires { ⌜ a + n ≤ length (now line) ⌝ ∗ ⌜ s + n ≤ length (now src) ⌝ }
+    ensures { λ _. ⌜ Span nan (now (line .entry)) (now (line .exit)) a (a + n) (λ i. widened (getD (now (src .entry)) (s + (i - a)) 0)) ⌝ }
+{
+    let mut i = 0;
+    while i < n {
+        line[a + i] = src[s + i] as f32;
+        i += 1;
+    }
+}
+
+// n zeros from a on.
+pub fn clear(line: &mut [f32], a: usize, n: usize)
+    requires { ⌜ a + n ≤ length (now line) ⌝ }
+    ensures { λ _. ⌜ Span nan (now (line .entry)) (now (line .exit)) a (a + n) (λ _. zero32) ⌝ }
+{
+    let mut i = 0;
+    while i < n {
+        line[a + i] = 0.0;
+        i += 1;
+    }
+}
+
+// The first tap of n sums.
+fn first_tap(acc: &mut [f32], n: usize, line: &[f32], a: usize, k: f32)
+    requires { ⌜ n ≤ length (now acc) ⌝ ∗ ⌜ a + n ≤ length (now line) ⌝ }
+    ensures { λ _. ⌜ Span nan (now (acc .entry)) (now (acc .exit)) 0 n (λ i. plus zero32 (getD (now (line .entry)) (a + i) nan) k) ⌝ }
+{
+    let mut i = 0;
+    while i < n {
+        acc[i] = 0.0 + line[a + i] * k;
+        i += 1;
+    }
+}
+
+// One more tap.
+fn add_tap(acc: &mut [f32], n: usize, line: &[f32], a: usize, k: f32)
+    requires { ⌜ n ≤ length (now acc) ⌝ ∗ ⌜ a + n ≤ length (now line) ⌝ }
+    ensures { λ _. ⌜ Span nan (now (acc .entry)) (now (acc .exit)) 0 n (λ i. plus (getD (now (acc .entry)) i nan) (getD (now (line .entry)) (a + i) nan) k) ⌝ }
+{
+    let mut i = 0;
+    while i < n {
+        acc[i] = acc[i] + line[a + i] * k;
+        i += 1;
+    }
+}
+
+// Two more, one after the other.
+fn add_two(acc: &mut [f32], n: usize, line: &[f32], a: usize, k: f32, b: usize, l: f32)
+    requires { ⌜ n ≤ length (now acc) ⌝ ∗ ⌜ a + n ≤ length (now line) ⌝ ∗ ⌜ b + n ≤ length (now line) ⌝ }
+    ensures { λ _. ⌜ Span nan (now (acc .entry)) (now (acc .exit)) 0 n (λ i. plus (plus (getD (now (acc .entry)) i nan) (getD (now (line .entry)) (a + i) nan) k) (getD (now (line .entry)) (b + i) nan) l) ⌝ }
+{
+    let mut i = 0;
+    while i < n {
+        acc[i] = acc[i] + line[a + i] * k + line[b + i] * l;
+        i += 1;
+    }
+}
+
+// n sums of the values from a on, under all weights in order.
+fn sums(acc: &mut [f32], n: usize, line: &[f32], a: usize, step: usize, weights: &[f32])
+    requires { ⌜ n ≤ length (now acc) ⌝ ∗ ⌜ Reaches (now line) (now weights) a step n ⌝ }
+    ensures { λ _. ⌜ ((i : ℕ) → i < n → getD (now (acc .exit)) i nan ≡ laneSum (now (line .entry)) a step (now (weights .entry)) (length (now (weights .entry))) i) ⌝ }
+{
+    first_tap(acc, n, line, a, weights[0]);
+    let mut j = 1;
+    while j + 1 < weights.len() {
+        let b = a + j * step;
+        add_two(acc, n, line, b, weights[j], b + step, weights[j + 1]);
+        j += 2;
+    }
+    if j < weights.len() {
+        add_tap(acc, n, line, a + j * step, weights[j]);
+    }
+}
+
+// n sums as bytes from o on.
+fn round_lanes(dst: &mut [u8], o: usize, n: usize, acc: &[f32])
+    requires { ⌜ o + n ≤ length (now dst) ⌝ ∗ ⌜ n ≤ length (now acc) ⌝ ∗ ⌜ ((i : ℕ) → i < n → T (nonneg (getD (now acc) i nan))) ⌝ }
+    ensures { λ _. ⌜ Span 0 (now (dst .entry)) (now (dst .exit)) o (o + n) (λ j. toByte (getD (now (acc .entry)) (j - o) nan)) ⌝ }
+{
+    let mut i = 0;
+    while i < n {
+        dst[o + i] = binary32::round_channel(acc[i]);
+        i += 1;
+    }
+}
+
+// n lanes of a line from a on under all weights, as bytes from o on. acc is room for the sums.
+pub fn weigh(
+    dst: &mut [u8],
+    o: usize,
+    n: usize,
+    acc: &mut [f32],
+    line: &[f32],
+    a: usize,
+    step: usize,
+    weights: &[f32],
+)
+    requires { ⌜ o + n ≤ length (now dst) ⌝ ∗ ⌜ n ≤ length (now acc) ⌝ ∗ ⌜ Reaches (now line) (now weights) a step n ⌝
+        ∗ ⌜ ((i : ℕ) → i < n → T (nonneg (laneSum (now line) a step (now weights) (length (now weights)) i))) ⌝ }
+    ensures { λ _. ⌜ Span 0 (now (dst .entry)) (now (dst .exit)) o (o + n) (λ j. toByte (laneSum (now (line .entry)) a step (now (weights .entry)) (length (now (weights .entry))) (j - o))) ⌝ }
+{
+    sums(acc, n, line, a, step, weights);
+    round_lanes(dst, o, n, acc);
+}
