@@ -82,7 +82,19 @@ fn fill(
 {
     let mut e = first;
     while e < last {
-        fill_element(line, e * n, n, src, start, len, stride, from, x + e, d, mode);
+        fill_element(
+            line,
+            e * n,
+            n,
+            src,
+            start,
+            len,
+            stride,
+            from,
+            x + e,
+            d,
+            mode,
+        );
         e += 1;
     }
 }
@@ -105,8 +117,27 @@ fn fill_whole(
     let low = excess(d, x);
     let high = least(count, len + d - x);
     fill(line, stride, 0, low, src, start, len, stride, 0, x, d, mode);
-    lanes::widen(line, low * stride, (high - low) * stride, src, start + (x + low - d) * stride);
-    fill(line, stride, high, count, src, start, len, stride, 0, x, d, mode);
+    lanes::widen(
+        line,
+        low * stride,
+        (high - low) * stride,
+        src,
+        start + (x + low - d) * stride,
+    );
+    fill(
+        line,
+        stride,
+        high,
+        count,
+        src,
+        start,
+        len,
+        stride,
+        0,
+        x,
+        d,
+        mode,
+    );
 }
 
 // Outputs x up to x + m of a line, whose elements are taken whole.
@@ -128,7 +159,17 @@ fn convolve_whole(
     ensures { λ _. ⌜ Made 0 (lineByte mode (now (weights .entry)) (now (src .entry)) start len stride) (λ j. (x ≤ j / stride) × (j / stride < x + m)) (now (dst .entry)) (now (dst .exit)) ⌝ }
 {
     let taps = weights.len();
-    fill_whole(line, m + taps - 1, src, start, len, stride, x, taps / 2, mode);
+    fill_whole(
+        line,
+        m + taps - 1,
+        src,
+        start,
+        len,
+        stride,
+        x,
+        taps / 2,
+        mode,
+    );
     lanes::weigh(dst, x * stride, m * stride, acc, line, 0, stride, weights);
 }
 
@@ -153,10 +194,32 @@ fn convolve_strip(
     ensures { λ _. ⌜ Made 0 (lineByte mode (now (weights .entry)) (now (src .entry)) start len stride) (λ j. (x ≤ j / stride) × (j / stride < x + m) × (from ≤ j % stride) × (j % stride < from + n)) (now (dst .entry)) (now (dst .exit)) ⌝ }
 {
     let taps = weights.len();
-    fill(line, n, 0, m + taps - 1, src, start, len, stride, from, x, taps / 2, mode);
+    fill(
+        line,
+        n,
+        0,
+        m + taps - 1,
+        src,
+        start,
+        len,
+        stride,
+        from,
+        x,
+        taps / 2,
+        mode,
+    );
     let mut i = 0;
     while i < m {
-        lanes::weigh(dst, (x + i) * stride + from, n, acc, line, i * n, n, weights);
+        lanes::weigh(
+            dst,
+            (x + i) * stride + from,
+            n,
+            acc,
+            line,
+            i * n,
+            n,
+            weights,
+        );
         i += 1;
     }
 }
@@ -182,7 +245,21 @@ fn convolve_strips(
     let mut from = 0;
     while from < stride {
         let n = least(LANES, stride - from);
-        convolve_strip(line, acc, src, start, dst, len, stride, x, m, from, n, weights, mode);
+        convolve_strip(
+            line,
+            acc,
+            src,
+            start,
+            dst,
+            len,
+            stride,
+            x,
+            m,
+            from,
+            n,
+            weights,
+            mode,
+        );
         from += n;
     }
 }
@@ -255,7 +332,17 @@ fn each_line(
     while y < lines {
         let size = len * stride;
         let o = y * size;
-        convolve_line(line, acc, src, o, &mut dst[o..o + size], len, stride, weights, mode);
+        convolve_line(
+            line,
+            acc,
+            src,
+            o,
+            &mut dst[o..o + size],
+            len,
+            stride,
+            weights,
+            mode,
+        );
         y += 1;
     }
 }
@@ -276,7 +363,17 @@ pub fn convolve_lines(
 {
     let mut line = [0.0f32; LINE];
     let mut acc = [0.0f32; SUMS];
-    each_line(&mut line, &mut acc, src, dst, lines, len, stride, weights, mode);
+    each_line(
+        &mut line,
+        &mut acc,
+        src,
+        dst,
+        lines,
+        len,
+        stride,
+        weights,
+        mode,
+    );
 }
 
 // A level convolved: rows to scratch, then columns back.

@@ -1,6 +1,6 @@
 -- The marked cases as one table: what the definitions give of document 01's inputs, and what document 01 says.
 use mathlib.Core.Path.{_≡_, refl}
-use mathlib.Core.Bool.{false}
+use mathlib.Core.Bool.{true, false}
 use mathlib.Core.List.{List, [], _∷_, map}
 use Prim.Native.Nat.{ℕ}
 use lib.IntN.{ℤ, pos, negsuc}
@@ -24,6 +24,9 @@ use Rattle.passes.specs.Passes.{halve, double, convolve}
 use Rattle.passes.specs.Blur.{blur}
 use Rattle.gaussian_blur.specs.Blurred.{blurred}
 use Rattle.gaussian_blur.specs.Outcome.{Lent, blurredOrKept, outcome}
+use Rattle.shift.specs.Shift.{moved, shifted, shiftedPicture}
+use Rattle.shift.specs.Outcome.{wrongOffsets}
+use Rattle.shift.specs.Outcome as shift
 
 -- a line given by its values
 abbrev row : List ℕ → Line
@@ -56,9 +59,13 @@ quarter = fin false 1 (negsuc 1)
 abbrev blurs : List ℕ → ℕ → ℕ → List Float → ℕ → ℕ → List ℕ
 blurs as₀ w h weights n edge = told (outcome (alphas as₀) w h (alphas as₀) weights n one edge)
 
+-- a row of these alphas, moved by dx
+abbrev shifts : List ℕ → ℕ → Float → List ℕ
+shifts row w dx = let a = shift.outcome (alphas row) w 1 dx (fin false 0 (pos 0)) in a .number ∷ a .left
+
 -- a whole offset: forward, and backward
-abbrev moved : Offset → List ℕ
-moved o = o .plus ∷ o .minus ∷ []
+abbrev steps : Offset → List ℕ
+steps o = o .plus ∷ o .minus ∷ []
 
 pub record Case : Type 0 where
   pub given : List ℕ
@@ -86,12 +93,15 @@ table =
     -- F: 1 by 1 alpha 255, weights 1/4, 1/2, 1/4, n = 0, strength 1: None, and Duplicate
     ∷ (blurs (255 ∷ []) 1 1 (quarter ∷ half ∷ quarter ∷ []) 0 3 gives (0 ∷ alphas (64 ∷ [])))
     ∷ (blurs (255 ∷ []) 1 1 (quarter ∷ half ∷ quarter ∷ []) 0 0 gives (0 ∷ alphas (255 ∷ [])))
+    -- G: row 1, 2, 3 shifted by 1, and by -4
+    ∷ (shifts (1 ∷ 2 ∷ 3 ∷ []) 3 one gives (0 ∷ alphas (0 ∷ 1 ∷ 2 ∷ [])))
+    ∷ (shifts (1 ∷ 2 ∷ 3 ∷ []) 3 (fin true 1 (pos 2)) gives (0 ∷ alphas (0 ∷ 0 ∷ 0 ∷ [])))
     -- H: offset 0.5 moves 1, -0.5 moves -1
-    ∷ (moved (wholeOffset half) gives (1 ∷ 0 ∷ []))
-    ∷ (moved (wholeOffset (neg half)) gives (0 ∷ 1 ∷ []))
+    ∷ (steps (wholeOffset half) gives (1 ∷ 0 ∷ []))
+    ∷ (steps (wholeOffset (neg half)) gives (0 ∷ 1 ∷ []))
     ∷ []
 
 -- every case gives what document 01 says
 pub marked : map (λ (c : Case). c .given) table ≡ map (λ (c : Case). c .says) table
-unfolding placeOf place sample halve double convolve blur build chan painted cleared blurred blurredOrKept outcome settled firstOf zeroOrAbove wrongSides maxSide wrongLength tooShort wrongTaps maxTaps tooDeep maxDecimations wrongEdge modeOf finite outsideUnit anyOutside taps tap toByte roundHalfUp wholeOffset isNan lt add mul ofInt neg
+unfolding placeOf place sample halve double convolve blur build chan painted cleared blurred blurredOrKept outcome settled firstOf zeroOrAbove wrongSides maxSide wrongLength tooShort wrongTaps maxTaps tooDeep maxDecimations wrongEdge modeOf finite outsideUnit anyOutside taps tap toByte roundHalfUp wholeOffset isNan lt add mul ofInt neg moved shifted shiftedPicture wrongOffsets shift.outcome
 marked = refl

@@ -59,9 +59,13 @@ loop-again c =
     let t = w .before .before .before .before in
     let l = t .before .before in
     let i = l .loop .inv in
-    let k = w .convolve-block .kept in
-    (size t .1, k .0 ∙ i .1, k .1 .0 ∙ i .2, k .1 .1 .1 .1 .0 ∙ i .3,
-    made-join (λ j. j / start l .args .stride) (l .loop .x) (i .4) (w .convolve-block .ensures) (λ j r u. u) (λ j r u. (u, r)))
+    let k = w .convolve-block .kept in (
+      size t .1,
+      k .0 ∙ i .1,
+      k .1 .0 ∙ i .2,
+      k .1 .1 .1 .1 .0 ∙ i .3,
+      made-join (λ j. j / start l .args .stride) (l .loop .x) (i .4) (w .convolve-block .ensures) (λ j r u. u) (λ j r u. (u, r)),
+    )
 
 same-length : tie.Need-same-length Inv-loop μ-loop
 same-length c = c .before .loop .inv .1

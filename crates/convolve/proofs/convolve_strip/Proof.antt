@@ -94,11 +94,19 @@ weigh-requires c κs =
     let l = t .before in
     let s = start l in
     let k = s .pre .0 .kernel in
-    let n = s .pre .1 .1 .1 .1 in
-    (ends t, (omega (arith, n .2, l .loop .inv .1), (record {
-      some = some-taps k;
-      last = omega (arith, reaches t, l .before .before .before .fill .kept .0);
-    }, (λ i h. lane-nonneg (filled l) k (n .0) (l .loop .i) i refl (omega (arith, turn t)) (bytes l)))))
+    let n = s .pre .1 .1 .1 .1 in (
+      ends t,
+      (
+        omega (arith, n .2, l .loop .inv .1),
+        (
+          record {
+            some = some-taps k;
+            last = omega (arith, reaches t, l .before .before .before .fill .kept .0);
+          },
+          (λ i h. lane-nonneg (filled l) k (n .0) (l .loop .i) i refl (omega (arith, turn t)) (bytes l)),
+        ),
+      ),
+    )
 
 loop-again : tie.Need-loop-again Inv-loop μ-loop
 loop-again c =
@@ -108,14 +116,17 @@ loop-again c =
     let s = start l in
     let a = s .args in
     let i = l .loop .i in
-    let n = s .pre .1 .1 .1 .1 in
-    (omega arith, w .weigh .kept .1 .1 .1 .0 ∙ l .loop .inv .1, w .weigh .kept .0 ∙ l .loop .inv .2,
-    (λ mode f.
-    made-join (λ j. j / a .stride) (a .x + i) (l .loop .inv .3 mode f)
-    (made-span (w .weigh .ensures)
-    (λ j u v. lane-byte f (s .pre .0 .kernel) (n .0) i _ refl (omega (arith, turn t)) j (strip-at (a .stride) (a .x) i (a .from) (a .n) j (n .1) u v)))
-    (λ j r u. omega arith)
-    (λ j r u. strip-place (a .stride) (a .x) i (a .from) (a .n) j (n .1) (omega arith) (r .2) (r .3))))
+    let n = s .pre .1 .1 .1 .1 in (
+      omega arith,
+      w .weigh .kept .1 .1 .1 .0 ∙ l .loop .inv .1,
+      w .weigh .kept .0 ∙ l .loop .inv .2,
+      (λ mode f.
+          made-join (λ j. j / a .stride) (a .x + i) (l .loop .inv .3 mode f)
+          (made-span (w .weigh .ensures)
+          (λ j u v. lane-byte f (s .pre .0 .kernel) (n .0) i _ refl (omega (arith, turn t)) j (strip-at (a .stride) (a .x) i (a .from) (a .n) j (n .1) u v)))
+          (λ j r u. omega arith)
+          (λ j r u. strip-place (a .stride) (a .x) i (a .from) (a .n) j (n .1) (omega arith) (r .2) (r .3))),
+    )
 
 same-length : tie.Need-same-length Inv-loop μ-loop
 same-length c = c .before .before .before .before .fill .kept .0

@@ -47,9 +47,13 @@ loop-again c =
     let t = w .before .before .before .before in
     let l = t .before .before in
     let i = l .loop .inv in
-    let k = w .convolve-strip .kept in
-    (width t .1, k .0 ∙ i .1, k .1 .0 ∙ i .2, k .1 .1 .1 .1 .0 ∙ i .3,
-    made-join (λ j. j % l .before .before .before .before .before .before .args .stride) (l .loop .from) (i .4) (w .convolve-strip .ensures) (λ j r u. omega arith) (λ j r u. omega arith))
+    let k = w .convolve-strip .kept in (
+      width t .1,
+      k .0 ∙ i .1,
+      k .1 .0 ∙ i .2,
+      k .1 .1 .1 .1 .0 ∙ i .3,
+      made-join (λ j. j % l .before .before .before .before .before .before .args .stride) (l .loop .from) (i .4) (w .convolve-strip .ensures) (λ j r u. omega arith) (λ j r u. omega arith),
+    )
 
 same-length : tie.Need-same-length Inv-loop μ-loop
 same-length c = c .before .loop .inv .1

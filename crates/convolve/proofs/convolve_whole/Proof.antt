@@ -60,11 +60,19 @@ weigh-requires c κs =
     let t = c .before .before .before .before .before in
     let s = start (t .before) in
     let a = s .args in
-    let k = s .pre .0 .kernel in
-    (ends (t .before), (s .pre .1 .1 .1 .1, (record {
-      some = some-taps k;
-      last = omega (arith, taps-room (a .m) (length (now (a .weights))) (a .stride) (some-taps k), s .pre .1 .1 .1 .0, t .fill-whole .kept .0);
-    }, (λ i h. lane-nonneg (filled t) k (s .pre .0 .stride-low) 0 i (sym (zero-mul (a .stride))) (omega (arith, zero-mul (a .stride))) (bytes (t .before))))))
+    let k = s .pre .0 .kernel in (
+      ends (t .before),
+      (
+        s .pre .1 .1 .1 .1,
+        (
+          record {
+            some = some-taps k;
+            last = omega (arith, taps-room (a .m) (length (now (a .weights))) (a .stride) (some-taps k), s .pre .1 .1 .1 .0, t .fill-whole .kept .0);
+          },
+          (λ i h. lane-nonneg (filled t) k (s .pre .0 .stride-low) 0 i (sym (zero-mul (a .stride))) (omega (arith, zero-mul (a .stride))) (bytes (t .before))),
+        ),
+      ),
+    )
 
 same-length : tie.Need-same-length
 same-length c = search needs

@@ -69,9 +69,10 @@ convolve-line-requires c κs =
     let p = start l .pre .0 in
     let b = start l .pre .1 in
     let i = l .loop .inv in
-    let e = ends t in
-    (record { kernel = p .kernel; len-high = p .len-high; stride-low = p .stride-low; end = omega (arith, p .src-size) },
-    (simp (length-take, length-drop) (omega (arith, p .dst-size)), record { line-size = i .1 ∙ b .line-size; acc-size = i .2 ∙ b .acc-size }))
+    let e = ends t in (
+      record { kernel = p .kernel; len-high = p .len-high; stride-low = p .stride-low; end = omega (arith, p .src-size) },
+      (simp (length-take, length-drop) (omega (arith, p .dst-size)), record { line-size = i .1 ∙ b .line-size; acc-size = i .2 ∙ b .acc-size }),
+    )
 
 loop-again : tie.Need-loop-again Inv-loop μ-loop
 loop-again c =
@@ -86,9 +87,13 @@ loop-again c =
     let o = l .loop .y * n in
     let part = w .convolve-line .last .1 .1 .1 .1 .0 in
     let room : o + n ≤ length (l .loop .dst) = omega (arith, ends t, s .pre .0 .dst-size, i .3) in
-    let long : length part ≡ n = k .1 .1 .1 .1 .0 ∙ simp (length-take, length-drop) (omega arith) in
-    (omega arith, k .0 ∙ i .1, k .1 .0 ∙ i .2, same-len-mid o (o + n - o) (l .loop .dst) part (k .1 .1 .1 .1 .0) ∙ i .3,
-    part-join (omega arith) (omega arith) (i .4) (part-one (run-back (l .loop .dst) part o n _ room long (w .convolve-line .ensures) (zero-add o))))
+    let long : length part ≡ n = k .1 .1 .1 .1 .0 ∙ simp (length-take, length-drop) (omega arith) in (
+      omega arith,
+      k .0 ∙ i .1,
+      k .1 .0 ∙ i .2,
+      same-len-mid o (o + n - o) (l .loop .dst) part (k .1 .1 .1 .1 .0) ∙ i .3,
+      part-join (omega arith) (omega arith) (i .4) (part-one (run-back (l .loop .dst) part o n _ room long (w .convolve-line .ensures) (zero-add o))),
+    )
 
 same-length : tie.Need-same-length Inv-loop μ-loop
 same-length c = c .before .loop .inv .1

@@ -47,12 +47,15 @@ loop-again c =
     let a = l .before .before .before .args in
     let e = l .loop .e in
     let n = a .n in
-    let next : (e + 1) * n ≡ e * n + n = omega (arith, add-mul e 1 n, one-mul n) in
-    (omega arith, omega arith, t .fill-element .kept .0 ∙ l .loop .inv .2,
-    made-join (λ k. k) (e * n) (l .loop .inv .3)
-    (made-span (t .fill-element .ensures) (λ k u v. let p = at-element n e k u v in rw (p .0, p .1)))
-    (λ k r u. omega arith)
-    (λ k r u. omega arith))
+    let next : (e + 1) * n ≡ e * n + n = omega (arith, add-mul e 1 n, one-mul n) in (
+      omega arith,
+      omega arith,
+      t .fill-element .kept .0 ∙ l .loop .inv .2,
+      made-join (λ k. k) (e * n) (l .loop .inv .3)
+          (made-span (t .fill-element .ensures) (λ k u v. let p = at-element n e k u v in rw (p .0, p .1)))
+          (λ k r u. omega arith)
+          (λ k r u. omega arith),
+    )
 
 same-length : tie.Need-same-length Inv-loop μ-loop
 same-length c = c .before .loop .inv .2

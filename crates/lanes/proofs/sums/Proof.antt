@@ -65,10 +65,12 @@ loop-again : tie.Need-loop-again Inv-loop μ-loop
 loop-again c =
     let t = c .before .before in
     let l = t .before .before .before .before .before in
-    let a = start l .args in
-    (omega (arith, t .before .before .before .before .loop-test .taken), t .add-two .kept .0 ∙ l .loop .inv .1,
-    (λ i h.
-    t .add-two .ensures .inside i (omega arith) h ∙ sum-two (now (a .line)) (a .a) (a .step) (now (a .weights)) i (l .loop .j) (l .loop .inv .2 i h) refl))
+    let a = start l .args in (
+      omega (arith, t .before .before .before .before .loop-test .taken),
+      t .add-two .kept .0 ∙ l .loop .inv .1,
+      (λ i h.
+          t .add-two .ensures .inside i (omega arith) h ∙ sum-two (now (a .line)) (a .a) (a .step) (now (a .weights)) i (l .loop .j) (l .loop .inv .2 i h) refl),
+    )
 
 mul-add-tap : tie.Need-mul-add-tap Inv-loop μ-loop
 mul-add-tap c = let l = c .before .before .before in omega (arith, one l (c .before .if1 .taken), fits l)

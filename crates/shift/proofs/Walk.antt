@@ -1,0 +1,84 @@
+-- What a walk in place has made so far: its rule where it is done, and the list as it was elsewhere.
+use mathlib.Core.Path.{_≡_, refl, sym, _∙_}
+use mathlib.Core.Bool.{Bool, true, false, cond}
+use mathlib.Core.List.{List}
+use mathlib.Core.Logic.{_≢_}
+use Prim.Native.Nat.{ℕ, _+_, _-_, _≤_, _<_}
+use native.Mathlib.Omega.{arith}
+use lib.Dec.{ltb, eqb}
+use lib.ListN.{length, getD, set, length-set}
+use lib.Seq.{getD-set-same, getD-set-other}
+use borrow.Author.Tests.{lt-ltb, le-ltb, ltb-true, ltb-false, eqb-true, eqb-false}
+use Rattle.picture.specs.Build.{build}
+use Rattle.picture.specs.Planes.{Line}
+use Rattle.picture.proofs.Build.{length-build, getD-build, build-ext}
+use Rattle.shift.specs.Bytes.{lineOf, zeroed}
+use Rattle.shift.proofs.Zeroed.{build-same, zeroed-is}
+
+-- f below i, and g from there on
+abbrev pub upTo : ℕ → Line → Line → Line
+upTo i f g j = cond (ltb j i) (f j) (g j)
+
+module _ (f g : Line) where
+  pub upto-below : (i j : ℕ) → j < i → upTo i f g j ≡ f j
+  upto-below i j l = rw (lt-ltb j i l)
+
+  pub upto-from : (i j : ℕ) → i ≤ j → upTo i f g j ≡ g j
+  upto-from i j l = rw (le-ltb j i l)
+
+  upto-other : (i k j : ℕ) → k ≡ i + 1 → j ≢ i → upTo i f g j ≡ upTo k f g j
+  upto-other i k j e ne = by-test (ltb j i) refl
+    where
+      by-test : (t : Bool) → ltb j i ≡ t → upTo i f g j ≡ upTo k f g j
+      by-test true t = let l = ltb-true j i t in upto-below i j l ∙ sym (upto-below k j (omega arith))
+      by-test false t = let l = ltb-false j i t in upto-from i j l ∙ sym (upto-from k j (omega arith))
+
+-- an element is stored, and the rule changes there alone
+stored : (n : ℕ) (f g : Line) (k v : ℕ) → k < n → v ≡ g k → ((j : ℕ) → j ≢ k → f j ≡ g j) → set (build n f) k v ≡ build n g
+stored n f g k v l e h =
+    build-ext n g (set (build n f) k v) (length-set (build n f) k v ∙ length-build n f) (λ j m. by-test j m (eqb j k) refl)
+  where
+    by-test : (j : ℕ) → j < n → (t : Bool) → eqb j k ≡ t → getD (set (build n f) k v) j 0 ≡ g j
+    by-test j m true t = let q = eqb-true j k t in rw q (getD-set-same (build n f) k v 0 (rw length-build l) ∙ e)
+    by-test j m false t = let ne = eqb-false j k t in getD-set-other (build n f) k j v 0 ne ∙ getD-build n f j m ∙ h j ne
+
+-- a walk that makes `to` of the list `old`: what it has made once the places below i, or from i on, are done
+module _ (old : List ℕ) (to : Line) where
+  abbrev pub doneBelow : ℕ → List ℕ
+  doneBelow i = build (length old) (upTo i to (lineOf old))
+
+  abbrev pub doneFrom : ℕ → List ℕ
+  doneFrom i = build (length old) (upTo i (lineOf old) to)
+
+  pub below-none : old ≡ doneBelow 0
+  below-none = build-ext _ _ old refl (λ j l. sym (upto-from to (lineOf old) 0 j (omega arith)))
+
+  pub from-none : old ≡ doneFrom (length old)
+  from-none = build-ext _ _ old refl (λ j l. sym (upto-below (lineOf old) to (length old) j l))
+
+  -- place k is given what stands at i, which is not done yet
+  module _ (bytes : List ℕ) (i k : ℕ) (same : lineOf old i ≡ to k) where
+    turn : (f g : Line) → bytes ≡ build (length old) f → i < length old → k < length old → f i ≡ lineOf old i → g k ≡ to k → ((j : ℕ) → j ≢ k → f j ≡ g j) →
+        set bytes k (getD bytes i 0) ≡ build (length old) g
+    turn f g e li lk u v h = rw e (stored (length old) f g k (getD (build (length old) f) i 0) lk (getD-build (length old) f i li ∙ u ∙ same ∙ sym v) h)
+
+    pub turn-up : bytes ≡ doneBelow k → k ≤ i → i < length old → set bytes k (getD bytes i 0) ≡ doneBelow (k + 1)
+    turn-up e l m =
+        turn _ _ e m (omega arith) (upto-from to (lineOf old) k i l) (upto-below to (lineOf old) (k + 1) k (omega arith)) (λ j. upto-other to (lineOf old) k (k + 1) j refl)
+
+    pub turn-down : (n : ℕ) → n ≡ k + 1 → bytes ≡ doneFrom n → i < n → k < length old → set bytes k (getD bytes i 0) ≡ doneFrom k
+    turn-down n q e l m =
+        turn _ _ e (omega arith) m (upto-below (lineOf old) to n i l) (upto-from (lineOf old) to k k (omega arith)) (λ j ne. sym (upto-other (lineOf old) to k n j q ne))
+
+  -- no place is left
+  pub below-done : (i : ℕ) → length old ≤ i → doneBelow i ≡ build (length old) to
+  below-done i l = build-same (length old) _ to (λ j m. upto-below to (lineOf old) i j (omega arith))
+
+  -- the places that are left are 0
+  pub below-all : (i : ℕ) → i ≤ length old → ((j : ℕ) → i ≤ j → j < length old → to j ≡ 0) → zeroed i (length old - i) (doneBelow i) ≡ build (length old) to
+  below-all i l h =
+      zeroed-is (length old) _ to i (length old - i) (λ j m. upto-below to (lineOf old) i j m) (λ j m k. h j m (omega arith)) (λ j m k. absurd (omega arith))
+
+  pub from-all : (i : ℕ) → ((j : ℕ) → j < i → to j ≡ 0) → zeroed 0 i (doneFrom i) ≡ build (length old) to
+  from-all i h =
+      zeroed-is (length old) _ to 0 i (λ j m. absurd (omega arith)) (λ j m k. h j (omega arith)) (λ j m k. upto-from (lineOf old) to i j (omega arith))

@@ -1,0 +1,104 @@
+-- A picture is a plane of bytes, four to a pixel, and an offset held to the side moves it as the offset does.
+use mathlib.Core.Path.{_≡_, ap, _∙_}
+use Prim.Native.Nat.{ℕ, _≤_}
+use native.Mathlib.Omega.{arith}
+use borrow.Author.Needs.{needs}
+use Rattle.picture.specs.declared.LevelSize.{LevelSize}
+use Rattle.picture.proofs.Sizes.{room-is}
+use Rattle.binary32.specs.Round.{wholeOffset, roundOffset}
+use Rattle.binary32.specs.declared.Offset.{Offset}
+use Rattle.binary32.proofs.Offsets.{held, round-offset-held}
+use Rattle.shift.proofs.Pixels.{plane-length, picture-moved}
+use Rattle.shift.proofs.Rounded.{one-way, both-finite}
+use Rattle.shift.proofs.offset_pixels.Statement.{statement}
+use Rattle.shift.proofs.offset_pixels.Tie as tie
+
+level-zero-requires : tie.Need-level-zero-requires
+level-zero-requires c κs = search needs
+
+width-requires : tie.Need-width-requires
+width-requires c κs = search needs
+
+height-requires : tie.Need-height-requires
+height-requires c κs = search needs
+
+abbrev start : tie.After-height → tie.Start
+start c = c .before .before .before .before
+
+-- the sides, as the size has them
+w-is : (c : tie.After-height) → c .before .width .result ≡ start c .args .size .w
+w-is c = c .before .width .ensures ∙ ap (λ (l : LevelSize). l .w) (c .before .before .level-zero .ensures)
+
+h-is : (c : tie.After-height) → c .height .result ≡ start c .args .size .h
+h-is c = c .height .ensures ∙ ap (λ (l : LevelSize). l .h) (c .before .before .level-zero .ensures)
+
+-- a side has room
+fits : (c : tie.After-height) → (start c .args .size .w ≤ 65536) × (start c .args .size .h ≤ 65536)
+fits c = let z = start c .pre .sized in (omega (arith, z .w-high, room-is), omega (arith, z .h-high, room-is))
+
+round-offset-requires : tie.Need-round-offset-requires
+round-offset-requires c κs = omega (arith, w-is c, fits c)
+
+round-offset-requires-2 : tie.Need-round-offset-requires-2
+round-offset-requires-2 c κs = omega (arith, h-is (c .before), fits (c .before))
+
+-- the offsets: rounded, and held to the sides
+across : (c : tie.After-round-offset2) → c .before .round-offset .result ≡ held (start (c .before .before) .args .size .w) (wholeOffset (start (c .before .before) .args .dx))
+across c =
+    let s = start (c .before .before) in
+    c .before .round-offset .ensures
+    ∙ ap (λ (w : ℕ). roundOffset w (s .args .dx)) (w-is (c .before .before))
+    ∙ round-offset-held (s .args .size .w) (s .args .dx) (both-finite (s .args .dx) (s .args .dy) (s .pre .offsets) .0)
+
+down : (c : tie.After-round-offset2) → c .round-offset2 .result ≡ held (start (c .before .before) .args .size .h) (wholeOffset (start (c .before .before) .args .dy))
+down c =
+    let s = start (c .before .before) in
+    c .round-offset2 .ensures
+    ∙ ap (λ (h : ℕ). roundOffset h (s .args .dy)) (h-is (c .before .before))
+    ∙ round-offset-held (s .args .size .h) (s .args .dy) (both-finite (s .args .dx) (s .args .dy) (s .pre .offsets) .1)
+
+mul-move-plane : tie.Need-mul-move-plane
+mul-move-plane c = let m = c .before .before .before in omega (arith, w-is m, fits m)
+
+mul-t14 : tie.Need-mul-t14
+mul-t14 c = let r = c .before .before in omega (arith, ap (λ (o : Offset). o .plus) (across r), fits (r .before .before))
+
+mul-t15 : tie.Need-mul-t15
+mul-t15 c = let r = c .before .before .before in omega (arith, ap (λ (o : Offset). o .minus) (across r), fits (r .before .before))
+
+move-plane-requires : tie.Need-move-plane-requires
+move-plane-requires c κs =
+    let r = c .before .before .before in
+    let m = r .before .before in
+    let a = start m .args in (
+      plane-length _ _ (a .size .w) (a .size .h) (w-is m) (h-is m) (a .picture .now) (start m .pre .exact),
+      rw (across r) (omega (arith, one-way (a .dx))),
+      rw (down r) (omega (arith, one-way (a .dy))),
+    )
+
+same-length : tie.Need-same-length
+same-length c = search needs
+
+returns : tie.Need-returns
+returns c =
+    let r = c .before .before .before .before .before .before in
+    let m = r .before .before in
+    let a = start m .args in
+    rw (c .before .before .move-plane .ensures)
+    (picture-moved _ _ (a .size .w) (a .size .h) (w-is m) (h-is m) (a .picture .now) _ _ (wholeOffset (a .dx)) (wholeOffset (a .dy)) (across r) (down r) (one-way (a .dx)) (one-way (a .dy)))
+
+pub offset-pixels-spec : {M : Type 1} → statement M
+offset-pixels-spec =
+    tie.close
+    (tie.spec
+    level-zero-requires
+    width-requires
+    height-requires
+    round-offset-requires
+    round-offset-requires-2
+    mul-move-plane
+    mul-t14
+    mul-t15
+    move-plane-requires
+    same-length
+    returns)

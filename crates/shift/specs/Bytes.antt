@@ -1,0 +1,54 @@
+-- What the steps of a shift in place make of a list of bytes.
+use mathlib.Core.Path.{_≡_}
+use mathlib.Core.Bool.{Bool, cond}
+use mathlib.Core.List.{List}
+use Prim.Native.Nat.{ℕ, _+_, _*_, _/_, _%_, min}
+use lib.Dec.{ltb, leb}
+use lib.ListN.{length, getD}
+use Rattle.picture.specs.Build.{build}
+use Rattle.picture.specs.Planes.{Line}
+use Rattle.binary32.specs.declared.Offset.{Offset}
+use Rattle.shift.specs.Shift.{moved, shifted}
+
+-- a list of bytes as a line
+abbrev pub lineOf : List ℕ → Line
+lineOf bytes i = getD bytes i 0
+
+-- n places forward, and n places back
+abbrev pub forward : ℕ → Offset
+forward n = record { plus = n; minus = 0 }
+
+abbrev pub back : ℕ → Offset
+back n = record { plus = 0; minus = n }
+
+-- all bytes moved by d, as one line
+unfoldable pub slid : Offset → List ℕ → List ℕ
+slid d bytes = build (length bytes) (moved d (length bytes) (lineOf bytes))
+
+-- the value v at x, but 0 at the n places from a on
+abbrev pub blank : ℕ → ℕ → ℕ → ℕ → ℕ
+blank a n x v = cond (ltb x a) v (cond (ltb x (a + n)) 0 v)
+
+-- the n bytes from a on are 0
+unfoldable pub zeroed : ℕ → ℕ → List ℕ → List ℕ
+zeroed a n bytes = build (length bytes) (λ i. blank a n i (lineOf bytes i))
+
+-- the n bytes from a on are 0 in each row of w bytes
+unfoldable pub columnsZeroed : ℕ → ℕ → ℕ → List ℕ → List ℕ
+columnsZeroed w a n bytes = build (length bytes) (λ i. blank a n (i % w) (lineOf bytes i))
+
+-- in each row of w bytes, byte x is kept where x - dx lies inside the row, else 0
+unfoldable pub insideKept : Offset → ℕ → List ℕ → List ℕ
+insideKept dx w bytes = build (length bytes) (λ i. moved dx w (λ _. lineOf bytes i) (i % w))
+
+-- a plane of w by h bytes, row by row from the top, moved by dx and dy
+unfoldable pub planeShifted : Offset → Offset → ℕ → ℕ → List ℕ → List ℕ
+planeShifted dx dy w h bytes = build (h * w) (λ i. shifted dx dy w h (λ x y. lineOf bytes (y * w + x)) (i % w) (i / w))
+
+-- an offset as it comes from rounding: one of its numbers is 0
+abbrev pub OneWay : Offset → Type 0
+OneWay d = min (d .plus) (d .minus) ≡ 0
+
+-- no element of a line of s lies inside once it is moved by d
+abbrev pub movedOut : ℕ → Offset → Bool
+movedOut s d = leb s (d .plus + d .minus)

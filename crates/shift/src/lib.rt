@@ -1,0 +1,174 @@
+// The shift: offset_pixels moves a picture in place, and the entry `shift` checks and calls it.
+ghost use mathlib.Core.Path.{_≡_};
+ghost use mathlib.Core.Bool.{_||_};
+ghost use Prim.Native.Nat.{_+_, _*_, _≤_, _<_};
+ghost use lib.ListN.{length};
+ghost use Rattle.picture.specs.Refusal.{firstOf};
+ghost use Rattle.picture.specs.Answer.{answered};
+ghost use Rattle.binary32.specs.Round.{wholeOffset};
+ghost use Rattle.shift.specs.Shift.{shiftedPicture};
+ghost use Rattle.shift.specs.Bytes.{forward, back, slid, zeroed, columnsZeroed, insideKept, planeShifted, OneWay, movedOut};
+ghost use Rattle.shift.specs.Outcome.{wrongOffsets, Ready, shiftChecks, outcome};
+use binary32::Offset;
+use picture::FullSize;
+
+// Sets the n bytes from `start` on to zero.
+fn clear_run(bytes: &mut [u8], start: usize, n: usize)
+    requires { ⌜ start + n ≤ length (now bytes) ⌝ }
+    ensures { λ _. ⌜ now (bytes .exit) ≡ zeroed start n (now (bytes .entry)) ⌝ }
+{
+    picture::clear(&mut bytes[start..], n);
+}
+
+// Moves every byte n places forward, the last first, so that none is read after it is overwritten.
+fn move_forward(bytes: &mut [u8], n: usize)
+    ensures { λ _. ⌜ now (bytes .exit) ≡ slid (forward n) (now (bytes .entry)) ⌝ }
+{
+    let mut i = bytes.len();
+    while n < i {
+        i -= 1;
+        bytes[i] = bytes[i - n];
+    }
+    clear_run(bytes, 0, i);
+}
+
+// Moves every byte n places back, the first first.
+fn move_back(bytes: &mut [u8], n: usize)
+    ensures { λ _. ⌜ now (bytes .exit) ≡ slid (back n) (now (bytes .entry)) ⌝ }
+{
+    let mut i = 0;
+    while n < bytes.len() - i {
+        bytes[i] = bytes[i + n];
+        i += 1;
+    }
+    let left = bytes.len() - i;
+    clear_run(bytes, i, left);
+}
+
+// Moves every byte by d places.
+fn slide(bytes: &mut [u8], d: Offset)
+    ensures { λ _. ⌜ now (bytes .exit) ≡ slid d (now (bytes .entry)) ⌝ }
+{
+    if d.minus < d.plus {
+        move_forward(bytes, d.plus - d.minus);
+        return;
+    }
+    if d.plus < d.minus {
+        move_back(bytes, d.minus - d.plus);
+    }
+}
+
+// Sets the n bytes from `start` on to zero in each of the h rows of w bytes.
+fn clear_columns(bytes: &mut [u8], w: usize, h: usize, start: usize, n: usize)
+    requires { ⌜ (length (now bytes) ≡ h * w) × (start + n ≤ w) ⌝ }
+    ensures { λ _. ⌜ now (bytes .exit) ≡ columnsZeroed w start n (now (bytes .entry)) ⌝ }
+{
+    let mut y = 0;
+    while y < h {
+        clear_run(bytes, y * w + start, n);
+        y += 1;
+    }
+}
+
+// Sets each byte to zero that came from another row: the first columns, or the last.
+fn clear_exposed(bytes: &mut [u8], w: usize, h: usize, dx: Offset)
+    requires { ⌜ (length (now bytes) ≡ h * w) × OneWay dx × (dx .plus + dx .minus < w) ⌝ }
+    ensures { λ _. ⌜ now (bytes .exit) ≡ insideKept dx w (now (bytes .entry)) ⌝ }
+{
+    if 0 < dx.plus {
+        clear_columns(bytes, w, h, 0, dx.plus);
+        return;
+    }
+    if 0 < dx.minus {
+        clear_columns(bytes, w, h, w - dx.minus, dx.minus);
+    }
+}
+
+// Whether nothing of a plane of w by h lies inside once it is moved by dx and dy.
+fn moved_out(w: usize, h: usize, dx: Offset, dy: Offset) -> bool
+    requires { ⌜ OneWay dx × OneWay dy ⌝ }
+    ensures { λ r. ⌜ r ≡ movedOut w dx || movedOut h dy ⌝ }
+{
+    if w <= dx.plus + dx.minus {
+        return true;
+    }
+    h <= dy.plus + dy.minus
+}
+
+// Moves a plane of h rows of w bytes by dx and dy. All rows are moved as one line, by dy rows and dx
+// bytes at once, and what that brought in from another row is then cleared.
+fn move_plane(bytes: &mut [u8], w: usize, h: usize, dx: Offset, dy: Offset)
+    requires { ⌜ (length (now bytes) ≡ h * w) × OneWay dx × OneWay dy ⌝ }
+    ensures { λ _. ⌜ now (bytes .exit) ≡ planeShifted dx dy w h (now (bytes .entry)) ⌝ }
+{
+    if moved_out(w, h, dx, dy) {
+        let n = bytes.len();
+        clear_run(bytes, 0, n);
+        return;
+    }
+    slide(
+        bytes,
+        Offset {
+            plus: dy.plus * w + dx.plus,
+            minus: dy.minus * w + dx.minus,
+        },
+    );
+    clear_exposed(bytes, w, h, dx);
+}
+
+// Moves a picture by dx and dy, each rounded to whole pixels.
+pub fn offset_pixels(picture: &mut [u8], size: FullSize, dx: f32, dy: f32)
+    requires { ⌜ Ready size (length (now picture)) dx dy ⌝ }
+    ensures { λ _. ⌜ now (picture .exit) ≡ shiftedPicture (wholeOffset dx) (wholeOffset dy) (size .w) (size .h) (now (picture .entry)) ⌝ }
+{
+    let level = size.level_zero();
+    let w = level.width();
+    let h = level.height();
+    let across = binary32::round_offset(dx, w);
+    let down = binary32::round_offset(dy, h);
+    move_plane(
+        picture,
+        4 * w,
+        h,
+        Offset {
+            plus: 4 * across.plus,
+            minus: 4 * across.minus,
+        },
+        down,
+    );
+}
+
+// Refusal 7's condition, of two offsets.
+pub fn wrong_offsets(dx: f32, dy: f32) -> bool
+    ensures { λ r. ⌜ r ≡ wrongOffsets dx dy ⌝ }
+{
+    if !binary32::is_finite(dx) {
+        return true;
+    }
+    !binary32::is_finite(dy)
+}
+
+// The first of refusals 1, 2 and 7 that fits, 0 where none does; of the picture's length.
+pub fn shift_refusal(picture: usize, w: u32, h: u32, dx: f32, dy: f32) -> u32
+    ensures { λ r. ⌜ r ≡ firstOf (shiftChecks picture w h dx dy) ⌝ }
+{
+    let seven = picture::first(picture::NOT_FINITE, wrong_offsets(dx, dy), 0);
+    let two = picture::first(
+        picture::WRONG_LENGTH,
+        picture::wrong_length(picture, w, h),
+        seven,
+    );
+    picture::first(picture::WRONG_SIDES, picture::wrong_sides(w, h), two)
+}
+
+// Moves a picture of w by h pixels by dx and dy, rounded to whole pixels. Answers the refusal number.
+pub fn shift(picture: &mut [u8], w: u32, h: u32, dx: f32, dy: f32) -> u32
+    ensures { λ r. ⌜ answered r (now (picture .exit)) ≡ outcome (now (picture .entry)) w h dx dy ⌝ }
+{
+    let refusal = shift_refusal(picture.len(), w, h, dx, dy);
+    if refusal != 0 {
+        return refusal;
+    }
+    offset_pixels(picture, picture::full_size(w, h), dx, dy);
+    0
+}
