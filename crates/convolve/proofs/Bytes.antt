@@ -26,7 +26,7 @@ use Rattle.convolve.proofs.Taps.{few-taps, some-taps, most-taps}
 
 -- the line holds a block of m elements and what the taps add at its ends
 pub record Filled (mode : EdgeMode) (weights : List Float) (src : List ℕ) (start len stride from n x m : ℕ) (line : List Float) : Type 0 where
-  pub value : (t : ℕ) → t < (m + length weights - 1) * n → getD line t nan ≡ blockValue mode src start len stride from n x (length weights / 2) t
+  pub value : (t : ℕ) → t < (m + (length weights - 1)) * n → getD line t nan ≡ blockValue mode src start len stride from n x (length weights / 2) t
 
 -- a sample of bytes is a byte
 sample-byte : (mode : EdgeMode) (src : List ℕ) (start len stride k c d : ℕ) → ((i : ℕ) → getD src i 0 ≤ 255) → sample mode len (lane src start stride k) c d ≤ 255
@@ -43,15 +43,15 @@ module _ {mode : EdgeMode} {weights : List Float} {src : List ℕ} {start len st
   reads : (j : ℕ) → j < length weights → getD line (a + j * n + i) nan ≡ widened (read j)
   reads j l =
       let at : a + j * n + i ≡ (r + j) * n + i = omega (arith, add-mul r j n) in
-      let in-room : (r + j) * n + i < (m + length weights - 1) * n = room in
+      let in-room : (r + j) * n + i < (m + (length weights - 1)) * n = room in
       let element : x + ((r + j) * n + i) / n ≡ x + (r + i / n) + j = ap (λ (q : ℕ). x + q) (mul-add-div-right z (r + j) i) ∙ omega arith in
       ap (λ (t : ℕ). getD line t nan) at
       ∙ f .value ((r + j) * n + i) in-room
       ∙ rw (mul-add-mod-self-right (r + j) n i, element)
     where
-      room : (r + j) * n + i < (m + length weights - 1) * n
+      room : (r + j) * n + i < (m + (length weights - 1)) * n
       room =
-          let last : j + m ≤ m + length weights - 1 = omega arith in
+          let last : j + m ≤ m + (length weights - 1) = omega arith in
           omega (arith, add-mul r j n, add-mul j m n, mul-le-mul-right n last)
 
   lane-taps : laneSum line a n weights (length weights) i ≡ taps read (weight weights) (length weights)

@@ -14,7 +14,7 @@ use Rattle.picture.specs.Sizes.{sideRoom}
 use Rattle.picture.proofs.Sizes.{room-is}
 use Rattle.picture.proofs.Tests.{neither}
 use Rattle.edges.specs.Edges.{Reach}
-use Rattle.convolve.specs.Room.{Kernel, Source, whole, lanes, sumRoom, lineRoom}
+use Rattle.convolve.specs.Room.{Kernel, Source, whole, lanes, sumRoom, lineRoom, Buffers}
 
 -- the most taps are far fewer than arithmetic has room for
 pub few-taps : maxTaps ≤ 1024
@@ -32,36 +32,36 @@ module _ {weights : List Float} (k : Kernel weights) where
 
 -- the coordinates that a block of m elements from x on reads
 module _ {src : List ℕ} {weights : List Float} {start len stride : ℕ} (s : Source src weights start len stride) (x m : ℕ) (l : 0 < m) (h : x + m ≤ len) where
-  pub block-reach : Reach len (x + (m + length weights - 1)) (length weights / 2)
+  pub block-reach : Reach len (x + (m + (length weights - 1))) (length weights / 2)
   block-reach =
       let a = most-taps (s .kernel) in
       let b = few-taps in
       record { s-low = omega arith; s-high = s .len-high; c-high = omega (arith, s .len-high, room-is); d-high = omega arith }
 
 -- m elements of n lanes, and what the taps add at their ends
-pub taps-room : (m k n : ℕ) → 0 < k → (m + k - 1) * n + n ≡ k * n + m * n
+pub taps-room : (m k n : ℕ) → 0 < k → (m + (k - 1)) * n + n ≡ k * n + m * n
 taps-room m k n l =
-    let e : m + k - 1 + 1 ≡ k + m = omega arith in
-    omega (arith, add-mul (m + k - 1) 1 n, one-mul n, add-mul k m n, ap-mul n e)
+    let e : m + (k - 1) + 1 ≡ k + m = omega arith in
+    omega (arith, add-mul (m + (k - 1)) 1 n, one-mul n, add-mul k m n, ap-mul n e)
   where
     ap-mul : (n : ℕ) {a b : ℕ} → a ≡ b → a * n ≡ b * n
     ap-mul n e = rw e
 
 -- the buffers have room for a block of whole elements, and for one that goes in strips
-module _ (m k stride : ℕ) (r : m * min stride whole ≤ sumRoom) (l : 0 < k) (h : k ≤ maxTaps) where
-  pub whole-room : stride ≤ whole → ((m + k - 1) * stride ≤ lineRoom) × (m * stride ≤ sumRoom)
+module _ {weights line acc : List Float} (w : Kernel weights) (b : Buffers line acc) (m stride : ℕ) (r : m * min stride whole ≤ sumRoom) where
+  pub whole-room : stride ≤ whole → ((m + (length weights - 1)) * stride ≤ length line) × (m * stride ≤ length acc)
   unfolding lineRoom
-  whole-room w =
+  whole-room l =
       let e : min stride whole ≡ stride = omega arith in
-      let b : m * stride ≤ sumRoom = rw e at r in
-      (omega (arith, taps-room m k stride l, mul-le-mul-left k w), b)
+      let sums : m * stride ≤ sumRoom = rw e at r in
+      (omega (arith, b .line-size, most-taps w, taps-room m (length weights) stride (some-taps w), mul-le-mul-left (length weights) l), omega (arith, b .acc-size))
 
-  pub strip-room : whole < stride → (m + k - 1) * lanes ≤ lineRoom
+  pub strip-room : whole < stride → ((m + (length weights - 1)) * lanes ≤ length line) × (lanes ≤ length acc)
   unfolding lineRoom
-  strip-room w =
+  strip-room l =
       let e : min stride whole ≡ whole = omega arith in
-      let b : m * whole ≤ sumRoom = rw e at r in
-      omega arith
+      let sums : m * whole ≤ sumRoom = rw e at r in
+      (omega (arith, b .line-size, most-taps w, some-taps w), omega (arith, b .acc-size))
 
 -- a block's elements: some, no more than are left, and no more than there is room for
 pub block-size : (stride w len x m : ℕ) → 0 < stride → w ≡ min stride whole → x < len → m ≡ min (sumRoom / w) (len - x) → (0 < m) × (x + m ≤ len) × (m * min stride whole ≤ sumRoom)

@@ -2,7 +2,7 @@
 use mathlib.Core.Path.{_≡_}
 use mathlib.Core.Bool.{false}
 use mathlib.Core.List.{List}
-use Prim.Native.Nat.{ℕ, _+_, _-_, _*_, _≤_, _<_}
+use Prim.Native.Nat.{ℕ, _+_, _-_, _*_, _/_, _≤_, _<_}
 use lib.Ieee.{Float}
 use lib.ListN.{length}
 use Rattle.picture.specs.Sizes.{sideRoom}
@@ -36,13 +36,13 @@ whole = 32
 abbrev pub lanes : ℕ
 lanes = 128
 
--- at most this many sums are worked out at a time, so a block that goes in strips has at most sumRoom / whole elements
+-- at most this many sums are worked out at a time, so that a block has at most sumRoom / whole elements where it goes in strips
 abbrev pub sumRoom : ℕ
 sumRoom = 1024
 
--- the values of such a block's strip, with those that the taps add at its ends
+-- the values of a strip of such a block, with those that the taps read beyond its elements
 unfoldable pub lineRoom : ℕ
-lineRoom = (32 + maxTaps - 1) * lanes
+lineRoom = (sumRoom / whole + (maxTaps - 1)) * lanes
 
 -- the buffers: the values of a block, and the sums
 pub record Buffers (line acc : List Float) : Type 0 where

@@ -155,21 +155,12 @@ fn convolve_whole(
     mode: EdgeMode,
 )
     requires { ⌜ Source (now src) (now weights) start len stride ⌝ ∗ ⌜ (0 < m) × (x + m ≤ len) ⌝ ∗ ⌜ len * stride ≤ length (now dst) ⌝
-        ∗ ⌜ (m + length (now weights) - 1) * stride ≤ length (now line) ⌝ ∗ ⌜ m * stride ≤ length (now acc) ⌝ }
+        ∗ ⌜ (m + (length (now weights) - 1)) * stride ≤ length (now line) ⌝ ∗ ⌜ m * stride ≤ length (now acc) ⌝ }
     ensures { λ _. ⌜ Made 0 (lineByte mode (now (weights .entry)) (now (src .entry)) start len stride) (λ j. (x ≤ j / stride) × (j / stride < x + m)) (now (dst .entry)) (now (dst .exit)) ⌝ }
 {
     let taps = weights.len();
-    fill_whole(
-        line,
-        m + taps - 1,
-        src,
-        start,
-        len,
-        stride,
-        x,
-        taps / 2,
-        mode,
-    );
+    let more = taps - 1;
+    fill_whole(line, m + more, src, start, len, stride, x, taps / 2, mode);
     lanes::weigh(dst, x * stride, m * stride, acc, line, 0, stride, weights);
 }
 
@@ -190,15 +181,16 @@ fn convolve_strip(
     mode: EdgeMode,
 )
     requires { ⌜ Source (now src) (now weights) start len stride ⌝ ∗ ⌜ (0 < m) × (x + m ≤ len) ⌝ ∗ ⌜ len * stride ≤ length (now dst) ⌝
-        ∗ ⌜ (m + length (now weights) - 1) * n ≤ length (now line) ⌝ ∗ ⌜ (0 < n) × (from + n ≤ stride) × (n ≤ length (now acc)) ⌝ }
+        ∗ ⌜ (m + (length (now weights) - 1)) * n ≤ length (now line) ⌝ ∗ ⌜ (0 < n) × (from + n ≤ stride) × (n ≤ length (now acc)) ⌝ }
     ensures { λ _. ⌜ Made 0 (lineByte mode (now (weights .entry)) (now (src .entry)) start len stride) (λ j. (x ≤ j / stride) × (j / stride < x + m) × (from ≤ j % stride) × (j % stride < from + n)) (now (dst .entry)) (now (dst .exit)) ⌝ }
 {
     let taps = weights.len();
+    let more = taps - 1;
     fill(
         line,
         n,
         0,
-        m + taps - 1,
+        m + more,
         src,
         start,
         len,
@@ -239,7 +231,7 @@ fn convolve_strips(
     mode: EdgeMode,
 )
     requires { ⌜ Source (now src) (now weights) start len stride ⌝ ∗ ⌜ (0 < m) × (x + m ≤ len) ⌝ ∗ ⌜ len * stride ≤ length (now dst) ⌝
-        ∗ ⌜ (m + length (now weights) - 1) * lanes ≤ length (now line) ⌝ ∗ ⌜ lanes ≤ length (now acc) ⌝ }
+        ∗ ⌜ (m + (length (now weights) - 1)) * lanes ≤ length (now line) ⌝ ∗ ⌜ lanes ≤ length (now acc) ⌝ }
     ensures { λ _. ⌜ Made 0 (lineByte mode (now (weights .entry)) (now (src .entry)) start len stride) (λ j. (x ≤ j / stride) × (j / stride < x + m)) (now (dst .entry)) (now (dst .exit)) ⌝ }
 {
     let mut from = 0;

@@ -9,6 +9,7 @@ use lib.Seq.{getD-set-same, getD-set-other}
 use Rattle.lanes.specs.Lanes.{Span}
 
 module _ {A : Type 0} {none : A} {d : List A} {a : ℕ} {f : ℕ → A} where
+  -- none yet
   pub span-none : {b : ℕ} → b ≡ a → Span none d d a b f
   span-none e = record { size = refl; inside = λ i l m. absurd (omega arith); below = λ i l. refl; above = λ i l. refl }
 
@@ -25,6 +26,10 @@ module _ {A : Type 0} {none : A} {d : List A} {a : ℕ} {f : ℕ → A} where
         below = λ i m. getD-set-other e b i v none (λ z. omega arith) ∙ s .below i m;
         above = λ i m. getD-set-other e b i v none (λ z. omega arith) ∙ s .above i (omega arith);
       }
+
+  -- up to an end that is the same
+  pub span-to : {e : List A} {b c : ℕ} → Span none d e a b f → b ≡ c → Span none d e a c f
+  span-to s e = rw e at s
 
 -- values that are equal within the span
 pub span-same : {A : Type 0} {none : A} {d e : List A} {a b : ℕ} {f g : ℕ → A} → Span none d e a b f → ((i : ℕ) → a ≤ i → i < b → f i ≡ g i) → Span none d e a b g

@@ -10,9 +10,9 @@ use Rattle.picture.specs.Planes.{Line}
 use Rattle.picture.proofs.Tests.{neither}
 use Rattle.picture.proofs.Planes.{length-painted, chan-painted, painted-ext}
 use Rattle.binary32.specs.Ranges.{finite}
-use Rattle.binary32.specs.Round.{roundHalfUp, steps, minusSign, wholeOffset}
+use Rattle.binary32.specs.Round.{roundHalfUp, steps, minusSign, wholeOffset, roundOffset}
 use Rattle.binary32.specs.declared.Offset.{Offset}
-use Rattle.binary32.proofs.Offsets.{held}
+use Rattle.binary32.proofs.Offsets.{held, round-offset-held}
 use Rattle.shift.specs.Shift.{moved, shifted, shiftedPicture}
 use Rattle.shift.specs.Bytes.{OneWay}
 use Rattle.shift.specs.Outcome.{wrongOffsets}
@@ -30,6 +30,10 @@ steps-one-way true n = omega arith
 pub one-way : (x : Float) → OneWay (wholeOffset x)
 unfolding wholeOffset
 one-way x = steps-one-way (minusSign x) (roundHalfUp x)
+
+-- what the code rounds and holds to a side t
+pub rounded-held : (s t : ℕ) (x : Float) (d : Offset) → t ≡ s → finite x ≡ true → d ≡ roundOffset t x → d ≡ held s (wholeOffset x)
+rounded-held s t x d e f r = r ∙ ap (λ (k : ℕ). roundOffset k x) e ∙ round-offset-held s x f
 
 moved-held : (d : Offset) (s : ℕ) (line : Line) (x : ℕ) → OneWay d → x < s → moved (held s d) s line x ≡ moved d s line x
 moved-held d s line x o l = moved-as d s x (held s d) s x (λ i. i) line (λ m. omega arith) (λ i e m. (omega arith, m)) (λ m. omega arith)

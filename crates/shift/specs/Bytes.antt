@@ -1,12 +1,13 @@
 -- What the steps of a shift in place make of a list of bytes.
 use mathlib.Core.Path.{_≡_}
-use mathlib.Core.Bool.{Bool, cond}
+use mathlib.Core.Bool.{Bool, true, false, cond}
 use mathlib.Core.List.{List}
 use Prim.Native.Nat.{ℕ, _+_, _*_, _/_, _%_, min}
 use lib.Dec.{ltb, leb}
 use lib.ListN.{length, getD}
 use Rattle.picture.specs.Build.{build}
 use Rattle.picture.specs.Planes.{Line}
+use Rattle.binary32.specs.Round.{steps}
 use Rattle.binary32.specs.declared.Offset.{Offset}
 use Rattle.shift.specs.Shift.{moved, shifted}
 
@@ -16,10 +17,10 @@ lineOf bytes i = getD bytes i 0
 
 -- n places forward, and n places back
 abbrev pub forward : ℕ → Offset
-forward n = record { plus = n; minus = 0 }
+forward n = steps false n
 
 abbrev pub back : ℕ → Offset
-back n = record { plus = 0; minus = n }
+back n = steps true n
 
 -- all bytes moved by d, as one line
 unfoldable pub slid : Offset → List ℕ → List ℕ

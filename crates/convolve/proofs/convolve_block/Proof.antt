@@ -1,9 +1,6 @@
 -- Either way the buffers have room.
-use native.Mathlib.Omega.{arith}
 use borrow.Author.Needs.{needs}
-use lib.ListN.{length}
-use denote.Ref.{now}
-use Rattle.convolve.proofs.Taps.{some-taps, most-taps, whole-room, strip-room}
+use Rattle.convolve.proofs.Taps.{whole-room, strip-room}
 use Rattle.convolve.proofs.convolve_block.Statement.{statement}
 use Rattle.convolve.proofs.convolve_block.Tie as tie
 
@@ -11,23 +8,15 @@ convolve-whole-requires : tie.Need-convolve-whole-requires
 convolve-whole-requires c κs =
     let t = c .before .before .before in
     let s = t .before .before .before .before .before .before in
-    let a = s .args in
-    let k = s .pre .0 .kernel in
     let p = s .pre .1 .1 in
-    let b = p .1 .1 in
-    let r = whole-room (a .m) (length (now (a .weights))) (a .stride) (p .1 .0) (some-taps k) (most-taps k) (t .if1 .taken) in
-    (s .pre .0, (s .pre .1 .0, (p .0, (omega (arith, r .0, b .line-size), omega (arith, r .1, b .acc-size)))))
+    (s .pre .0, (s .pre .1 .0, (p .0, whole-room (s .pre .0 .kernel) (p .1 .1) (s .args .m) (s .args .stride) (p .1 .0) (t .if1 .taken))))
 
 convolve-strips-requires : tie.Need-convolve-strips-requires
 convolve-strips-requires c κs =
     let t = c .before .before .before in
     let s = t .before .before .before .before .before .before in
-    let a = s .args in
-    let k = s .pre .0 .kernel in
     let p = s .pre .1 .1 in
-    let b = p .1 .1 in
-    let r = strip-room (a .m) (length (now (a .weights))) (a .stride) (p .1 .0) (some-taps k) (most-taps k) (t .if1 .left) in
-    (s .pre .0, (s .pre .1 .0, (p .0, (omega (arith, r, b .line-size), omega (arith, b .acc-size)))))
+    (s .pre .0, (s .pre .1 .0, (p .0, strip-room (s .pre .0 .kernel) (p .1 .1) (s .args .m) (s .args .stride) (p .1 .0) (t .if1 .left))))
 
 pub convolve-block-spec : {M : Type 1} → statement M
 convolve-block-spec =

@@ -67,15 +67,6 @@ loop-again c =
       made-join (λ j. j / start l .args .stride) (l .loop .x) (i .4) (w .convolve-block .ensures) (λ j r u. u) (λ j r u. (u, r)),
     )
 
-same-length : tie.Need-same-length Inv-loop μ-loop
-same-length c = c .before .loop .inv .1
-
-same-length-2 : tie.Need-same-length-2 Inv-loop μ-loop
-same-length-2 c = c .before .loop .inv .2
-
-same-length-3 : tie.Need-same-length-3 Inv-loop μ-loop
-same-length-3 c = c .before .loop .inv .3
-
 returns : tie.Need-returns Inv-loop μ-loop
 returns c =
     let l = c .before in
@@ -96,7 +87,7 @@ convolve-line-spec =
     (λ c. omega (arith, size (c .before .before .before .before .before .before .before .before .before .before)))
     (λ c. omega (arith, size (c .before .before .before .before .before .before .before .before .before .before)))
     loop-again
-    same-length
-    same-length-2
-    same-length-3
+    (λ c. c .before .loop .inv .1)
+    (λ c. c .before .loop .inv .2)
+    (λ c. c .before .loop .inv .3)
     returns)

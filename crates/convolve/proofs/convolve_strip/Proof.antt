@@ -1,24 +1,23 @@
 -- The block is filled; then each turn rounds the sums of one element more.
 use mathlib.Core.Path.{_≡_, refl, _∙_}
 use Prim.Native.Nat.{ℕ, _+_, _-_, _*_, _/_, _%_, _≤_, _<_}
-use native.Mathlib.Nat.{mul-le-mul-right}
 use native.Mathlib.Omega.{arith}
 use lib.ListN.{length, getD}
 use denote.Ref.{now}
 use Rattle.picture.specs.declared.EdgeMode.{EdgeMode}
-use Rattle.picture.proofs.Sizes.{room-is}
+use Rattle.edges.specs.Edges.{Reach}
 use Rattle.passes.proofs.Written.{within}
 use Rattle.convolve.specs.Blocks.{lineByte, Made}
 use Rattle.convolve.proofs.Progress.{made-none, made-in, made-span, made-join}
 use Rattle.convolve.proofs.Places.{strip-place, strip-at}
-use Rattle.convolve.proofs.Taps.{few-taps, some-taps, most-taps, block-reach, taps-room}
+use Rattle.convolve.proofs.Taps.{some-taps, block-reach, taps-room}
 use Rattle.convolve.proofs.Bytes.{Filled, lane-byte, lane-nonneg}
 use Rattle.convolve.proofs.convolve_strip.Statement.{statement}
 use Rattle.convolve.proofs.convolve_strip.Tie as tie
 
 -- the loop does not know the edge rule: it holds of any by which the line is filled
 abbrev Inv-loop : tie.InvT-loop
-Inv-loop line acc₀ src start dst₀ len stride x m from n weights taps i₀ acc dst i =
+Inv-loop line acc₀ src start dst₀ len stride x m from n weights taps more i₀ acc dst i =
     (i ≤ m)
     × (length acc ≡ length acc₀)
     × (length dst ≡ length dst₀)
@@ -26,17 +25,19 @@ Inv-loop line acc₀ src start dst₀ len stride x m from n weights taps i₀ ac
     Made 0 (lineByte mode weights src start len stride) (λ j. (x ≤ j / stride) × (j / stride < x + i) × (from ≤ j % stride) × (j % stride < from + n)) dst₀ dst)
 
 abbrev μ-loop : tie.MeasureT-loop
-μ-loop line acc₀ src start dst₀ len stride x m from n weights taps i₀ acc dst i = m - i
+μ-loop line acc₀ src start dst₀ len stride x m from n weights taps more i₀ acc dst i = m - i
 
 -- where the function starts, from the loop's head
 abbrev start : tie.At-loop Inv-loop μ-loop → tie.Start Inv-loop μ-loop
 start l = l .before .before .before .before .before .before .before .before .before .before
 
+reach : (s : tie.Start Inv-loop μ-loop) → let a = s .args in let k = length (now (a .weights)) in Reach (a .len) (a .x + (a .m + (k - 1))) (k / 2)
+reach s = block-reach (s .pre .0) (s .args .x) (s .args .m) (s .pre .1 .0 .0) (s .pre .1 .0 .1)
+
 module _ (l : tie.At-loop Inv-loop μ-loop) where
   bytes : (k : ℕ) → getD (now (start l .args .src)) k 0 ≤ 255
   bytes k = omega (arith, l .before .before .before .before .before .before .before .shared-slice-known .given k .fits)
 
-  -- what has been filled
   filled : let a = start l .args in
       Filled (a .mode) (now (a .weights)) (now (a .src)) (a .start) (a .len) (a .stride) (a .from) (a .n) (a .x) (a .m) (l .before .before .before .fill .last .0)
   filled = record { value = λ t h. l .before .before .before .fill .ensures .makes t (omega arith, h) }
@@ -59,34 +60,13 @@ module _ (c : tie.In-loop Inv-loop μ-loop) where
       let a = s .args in
       omega (arith, taps-room (a .m) (length (now (a .weights))) (a .n) (some-taps (s .pre .0 .kernel)), s .pre .1 .1 .1 .0, turn)
 
-add-fill : tie.Need-add-fill Inv-loop μ-loop
-add-fill c =
-    let s = c .before .before .before .before .before .before in
-    omega (arith, most-taps (s .pre .0 .kernel), few-taps, s .pre .0 .len-high, s .pre .1 .0 .1, room-is)
-
-sub-fill : tie.Need-sub-fill Inv-loop μ-loop
-sub-fill c = let s = c .before .before .before .before .before .before in omega (arith, s .pre .1 .0 .0)
-
 fill-requires : tie.Need-fill-requires Inv-loop μ-loop
 fill-requires c κs =
     let s = c .before .before .before .before .before .before in
-    let p = s .pre .1 .0 in
-    ((omega arith, s .pre .1 .1 .1 .0), (s .pre .1 .1 .1 .1 .1, (s .pre .0 .end, block-reach (s .pre .0) (s .args .x) (s .args .m) (p .0) (p .1))))
+    ((omega arith, s .pre .1 .1 .1 .0), (s .pre .1 .1 .1 .1 .1, (s .pre .0 .end, reach s)))
 
 loop-holds : tie.Need-loop-holds Inv-loop μ-loop
 loop-holds c = (omega arith, refl, refl, (λ mode f. made-none (λ j r. omega arith)))
-
-add-weigh : tie.Need-add-weigh Inv-loop μ-loop
-add-weigh c = let s = start (c .before .before) in omega (arith, c .before .loop-test .taken, s .pre .1 .0 .1, s .pre .0 .len-high, room-is)
-
-mul-weigh : tie.Need-mul-weigh Inv-loop μ-loop
-mul-weigh c = omega (arith, ends (c .before))
-
-add-weigh-2 : tie.Need-add-weigh-2 Inv-loop μ-loop
-add-weigh-2 c = omega (arith, ends (c .before))
-
-mul-weigh-2 : tie.Need-mul-weigh-2 Inv-loop μ-loop
-mul-weigh-2 c = let t = c .before .before .before in omega (arith, reaches t, start (t .before) .good .0 .0)
 
 weigh-requires : tie.Need-weigh-requires Inv-loop μ-loop
 weigh-requires c κs =
@@ -128,15 +108,6 @@ loop-again c =
           (λ j r u. strip-place (a .stride) (a .x) i (a .from) (a .n) j (n .1) (omega arith) (r .2) (r .3))),
     )
 
-same-length : tie.Need-same-length Inv-loop μ-loop
-same-length c = c .before .before .before .before .fill .kept .0
-
-same-length-2 : tie.Need-same-length-2 Inv-loop μ-loop
-same-length-2 c = c .before .loop .inv .1
-
-same-length-3 : tie.Need-same-length-3 Inv-loop μ-loop
-same-length-3 c = c .before .loop .inv .2
-
 returns : tie.Need-returns Inv-loop μ-loop
 returns c =
     let l = c .before in
@@ -148,19 +119,19 @@ convolve-strip-spec =
     (tie.spec
     Inv-loop
     μ-loop
-    add-fill
-    sub-fill
+    (λ c. omega (arith, some-taps (c .before .before .before .before .before .pre .0 .kernel)))
+    (λ c. omega (arith, reach (c .before .before .before .before .before .before) .c-high))
     fill-requires
     loop-holds
-    add-weigh
-    mul-weigh
-    add-weigh-2
-    mul-weigh-2
+    (λ c. omega (arith, c .before .loop-test .taken, reach (start (c .before .before)) .c-high))
+    (λ c. omega (arith, ends (c .before)))
+    (λ c. omega (arith, ends (c .before)))
+    (λ c. let t = c .before .before .before in omega (arith, reaches t, start (t .before) .good .0 .0))
     weigh-requires
     (λ c. omega arith)
     (λ c. omega arith)
     loop-again
-    same-length
-    same-length-2
-    same-length-3
+    (λ c. c .before .before .before .before .fill .kept .0)
+    (λ c. c .before .loop .inv .1)
+    (λ c. c .before .loop .inv .2)
     returns)

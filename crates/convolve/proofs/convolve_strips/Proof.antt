@@ -39,7 +39,7 @@ convolve-strip-requires c κs =
     let p = s .pre .1 .1 in
     let i = l .loop .inv in
     let n = width t in
-    (s .pre .0, (s .pre .1 .0, (omega (arith, p .0, i .3), (omega (arith, mul-le-mul-left (s .args .m + length (now (s .args .weights)) - 1) (n .2), p .1 .0, i .1), (n .0, n .1, omega (arith, n .2, p .1 .1, i .2))))))
+    (s .pre .0, (s .pre .1 .0, (omega (arith, p .0, i .3), (omega (arith, mul-le-mul-left (s .args .m + (length (now (s .args .weights)) - 1)) (n .2), p .1 .0, i .1), (n .0, n .1, omega (arith, n .2, p .1 .1, i .2))))))
 
 loop-again : tie.Need-loop-again Inv-loop μ-loop
 loop-again c =
@@ -54,15 +54,6 @@ loop-again c =
       k .1 .1 .1 .1 .0 ∙ i .3,
       made-join (λ j. j % l .before .before .before .before .before .before .args .stride) (l .loop .from) (i .4) (w .convolve-strip .ensures) (λ j r u. omega arith) (λ j r u. omega arith),
     )
-
-same-length : tie.Need-same-length Inv-loop μ-loop
-same-length c = c .before .loop .inv .1
-
-same-length-2 : tie.Need-same-length-2 Inv-loop μ-loop
-same-length-2 c = c .before .loop .inv .2
-
-same-length-3 : tie.Need-same-length-3 Inv-loop μ-loop
-same-length-3 c = c .before .loop .inv .3
 
 returns : tie.Need-returns Inv-loop μ-loop
 returns c =
@@ -83,7 +74,7 @@ convolve-strips-spec =
     (λ c. omega (arith, width (c .before .before .before .before .before .before .before .before .before .before)))
     (λ c. omega (arith, width (c .before .before .before .before .before .before .before .before .before .before)))
     loop-again
-    same-length
-    same-length-2
-    same-length-3
+    (λ c. c .before .loop .inv .1)
+    (λ c. c .before .loop .inv .2)
+    (λ c. c .before .loop .inv .3)
     returns)

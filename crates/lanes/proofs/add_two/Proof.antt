@@ -1,12 +1,12 @@
 -- Each turn adds two products to one sum more, which stands as it came in.
-use mathlib.Core.Path.{_≡_, ap}
+use mathlib.Core.Path.{ap}
 use Prim.Native.Nat.{_+_, _-_, _≤_}
 use native.Mathlib.Omega.{arith}
 use lib.Ieee.{Float, nan}
 use lib.ListN.{getD}
 use denote.Ref.{now}
 use Rattle.lanes.specs.Lanes.{Span, plus}
-use Rattle.lanes.proofs.Spans.{span-none, span-more}
+use Rattle.lanes.proofs.Spans.{span-none, span-more, span-to}
 use Rattle.lanes.proofs.add_two.Statement.{statement}
 use Rattle.lanes.proofs.add_two.Tie as tie
 
@@ -17,9 +17,6 @@ Inv-loop acc₀ n line a k b l i₀ acc i =
 abbrev μ-loop : tie.MeasureT-loop
 μ-loop acc₀ n line a k b l i₀ acc i = n - i
 
-loop-holds : tie.Need-loop-holds Inv-loop μ-loop
-loop-holds c = (omega arith, span-none (omega arith))
-
 loop-again : tie.Need-loop-again Inv-loop μ-loop
 loop-again c =
     let l = c .before .before .before .before in
@@ -27,19 +24,13 @@ loop-again c =
     let i = l .loop .i in
     (omega arith, span-more (l .loop .inv .1) (omega arith) (omega arith) (omega arith) (ap (λ (s : Float). plus (plus s (getD (now (a .line)) (a .a + i) nan) (a .k)) (getD (now (a .line)) (a .b + i) nan) (a .l)) (l .loop .inv .1 .above i (omega arith))))
 
-same-length : tie.Need-same-length Inv-loop μ-loop
-same-length c = c .before .loop .inv .1 .size
-
-returns : tie.Need-returns Inv-loop μ-loop
-returns c = let e : c .before .loop .i ≡ c .before .before .args .n = omega arith in rw e at (c .before .loop .inv .1)
-
 pub add-two-spec : {M : Type 1} → statement M
 add-two-spec =
     tie.close
     (tie.spec
     Inv-loop
     μ-loop
-    loop-holds
+    (λ c. (omega arith, span-none (omega arith)))
     (λ c. omega arith)
     (λ c. omega arith)
     (λ c. omega arith)
@@ -53,5 +44,5 @@ add-two-spec =
     (λ c. omega arith)
     (λ c. omega arith)
     loop-again
-    same-length
-    returns)
+    (λ c. c .before .loop .inv .1 .size)
+    (λ c. span-to (c .before .loop .inv .1) (omega arith)))

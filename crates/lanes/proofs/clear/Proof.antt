@@ -1,11 +1,11 @@
 -- Each turn stores one zero more.
-use mathlib.Core.Path.{_≡_, refl}
+use mathlib.Core.Path.{refl}
 use Prim.Native.Nat.{_+_, _-_, _≤_}
 use native.Mathlib.Omega.{arith}
 use lib.Ieee.{nan, ofBits}
 use Rattle.binary32.specs.Ranges.{zero32}
 use Rattle.lanes.specs.Lanes.{Span}
-use Rattle.lanes.proofs.Spans.{span-none, span-more}
+use Rattle.lanes.proofs.Spans.{span-none, span-more, span-to}
 use Rattle.lanes.proofs.clear.Statement.{statement}
 use Rattle.lanes.proofs.clear.Tie as tie
 
@@ -15,20 +15,11 @@ Inv-loop line₀ a n i₀ line i = (i ≤ n) × Span nan line₀ line a (a + i) 
 abbrev μ-loop : tie.MeasureT-loop
 μ-loop line₀ a n i₀ line i = n - i
 
-loop-holds : tie.Need-loop-holds Inv-loop μ-loop
-loop-holds c = (omega arith, span-none (omega arith))
-
 loop-again : tie.Need-loop-again Inv-loop μ-loop
 unfolding ofBits
 loop-again c =
     let l = c .before in
     (omega arith, span-more (l .loop .inv .1) (omega arith) (omega arith) (omega arith) refl)
-
-same-length : tie.Need-same-length Inv-loop μ-loop
-same-length c = c .before .loop .inv .1 .size
-
-returns : tie.Need-returns Inv-loop μ-loop
-returns c = let e : c .before .loop .i ≡ c .before .before .args .n = omega arith in rw e at (c .before .loop .inv .1)
 
 pub clear-spec : {M : Type 1} → statement M
 clear-spec =
@@ -36,12 +27,12 @@ clear-spec =
     (tie.spec
     Inv-loop
     μ-loop
-    loop-holds
+    (λ c. (omega arith, span-none (omega arith)))
     (λ c. omega arith)
     (λ c. omega arith)
     (λ c. omega arith)
     (λ c. omega arith)
     (λ c. omega arith)
     loop-again
-    same-length
-    returns)
+    (λ c. c .before .loop .inv .1 .size)
+    (λ c. span-to (c .before .loop .inv .1) (omega arith)))

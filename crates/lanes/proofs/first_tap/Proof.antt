@@ -1,12 +1,12 @@
 -- Each turn stores one sum more: 0.0 and its first product.
-use mathlib.Core.Path.{_≡_, refl}
+use mathlib.Core.Path.{refl}
 use Prim.Native.Nat.{_+_, _-_, _≤_}
 use native.Mathlib.Omega.{arith}
 use lib.Ieee.{nan, ofBits}
 use lib.ListN.{getD}
 use Rattle.binary32.specs.Ranges.{zero32}
 use Rattle.lanes.specs.Lanes.{Span, plus}
-use Rattle.lanes.proofs.Spans.{span-none, span-more}
+use Rattle.lanes.proofs.Spans.{span-none, span-more, span-to}
 use Rattle.lanes.proofs.first_tap.Statement.{statement}
 use Rattle.lanes.proofs.first_tap.Tie as tie
 
@@ -16,20 +16,11 @@ Inv-loop acc₀ n line a k i₀ acc i = (i ≤ n) × Span nan acc₀ acc 0 i (λ
 abbrev μ-loop : tie.MeasureT-loop
 μ-loop acc₀ n line a k i₀ acc i = n - i
 
-loop-holds : tie.Need-loop-holds Inv-loop μ-loop
-loop-holds c = (omega arith, span-none (omega arith))
-
 loop-again : tie.Need-loop-again Inv-loop μ-loop
 unfolding ofBits
 loop-again c =
     let l = c .before .before in
     (omega arith, span-more (l .loop .inv .1) (omega arith) (omega arith) (omega arith) refl)
-
-same-length : tie.Need-same-length Inv-loop μ-loop
-same-length c = c .before .loop .inv .1 .size
-
-returns : tie.Need-returns Inv-loop μ-loop
-returns c = let e : c .before .loop .i ≡ c .before .before .args .n = omega arith in rw e at (c .before .loop .inv .1)
 
 pub first-tap-spec : {M : Type 1} → statement M
 first-tap-spec =
@@ -37,7 +28,7 @@ first-tap-spec =
     (tie.spec
     Inv-loop
     μ-loop
-    loop-holds
+    (λ c. (omega arith, span-none (omega arith)))
     (λ c. omega arith)
     (λ c. omega arith)
     (λ c. omega arith)
@@ -46,5 +37,5 @@ first-tap-spec =
     (λ c. omega arith)
     (λ c. omega arith)
     loop-again
-    same-length
-    returns)
+    (λ c. c .before .loop .inv .1 .size)
+    (λ c. span-to (c .before .loop .inv .1) (omega arith)))

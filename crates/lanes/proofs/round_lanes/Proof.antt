@@ -1,5 +1,5 @@
 -- Each turn rounds one sum more.
-use mathlib.Core.Path.{_≡_, ap, _∙_}
+use mathlib.Core.Path.{ap, _∙_}
 use Prim.Native.Nat.{ℕ, _+_, _-_, _≤_}
 use native.Mathlib.Omega.{arith}
 use lib.Ieee.{nan}
@@ -7,7 +7,7 @@ use lib.ListN.{getD}
 use denote.Ref.{now}
 use Rattle.binary32.specs.Round.{toByte}
 use Rattle.lanes.specs.Lanes.{Span}
-use Rattle.lanes.proofs.Spans.{span-none, span-more}
+use Rattle.lanes.proofs.Spans.{span-none, span-more, span-to}
 use Rattle.lanes.proofs.round_lanes.Statement.{statement}
 use Rattle.lanes.proofs.round_lanes.Tie as tie
 
@@ -16,9 +16,6 @@ Inv-loop dst₀ o n acc i₀ dst i = (i ≤ n) × Span 0 dst₀ dst o (o + i) (�
 
 abbrev μ-loop : tie.MeasureT-loop
 μ-loop dst₀ o n acc i₀ dst i = n - i
-
-loop-holds : tie.Need-loop-holds Inv-loop μ-loop
-loop-holds c = (omega arith, span-none (omega arith))
 
 round-channel-requires : tie.Need-round-channel-requires Inv-loop μ-loop
 round-channel-requires c κs =
@@ -30,21 +27,13 @@ loop-again c =
     let a = l .before .before .before .args in
     (omega arith, span-more (l .loop .inv .1) (omega arith) (omega arith) (omega arith) (c .round-channel .ensures ∙ ap (λ (k : ℕ). toByte (getD (now (a .acc)) k nan)) (omega arith)))
 
-same-length : tie.Need-same-length Inv-loop μ-loop
-same-length c = c .before .loop .inv .1 .size
-
-returns : tie.Need-returns Inv-loop μ-loop
-returns c =
-    let e : c .before .loop .i ≡ c .before .before .before .before .args .n = omega arith in
-    rw e at (c .before .loop .inv .1)
-
 pub round-lanes-spec : {M : Type 1} → statement M
 round-lanes-spec =
     tie.close
     (tie.spec
     Inv-loop
     μ-loop
-    loop-holds
+    (λ c. (omega arith, span-none (omega arith)))
     (λ c. omega arith)
     (λ c. omega arith)
     round-channel-requires
@@ -53,5 +42,5 @@ round-lanes-spec =
     (λ c. omega arith)
     (λ c. omega arith)
     loop-again
-    same-length
-    returns)
+    (λ c. c .before .loop .inv .1 .size)
+    (λ c. span-to (c .before .loop .inv .1) (omega arith)))

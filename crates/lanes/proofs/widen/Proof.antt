@@ -1,5 +1,5 @@
 -- Each turn stores one byte more as a float.
-use mathlib.Core.Path.{_≡_, ap}
+use mathlib.Core.Path.{ap}
 use Prim.Native.Nat.{ℕ, _+_, _-_, _≤_}
 use native.Mathlib.Omega.{arith}
 use borrow.Author.Needs.{needs}
@@ -7,7 +7,7 @@ use lib.Ieee.{nan}
 use lib.ListN.{getD}
 use denote.Ref.{now}
 use Rattle.lanes.specs.Lanes.{Span, widened}
-use Rattle.lanes.proofs.Spans.{span-none, span-more}
+use Rattle.lanes.proofs.Spans.{span-none, span-more, span-to}
 use Rattle.lanes.proofs.widen.Statement.{statement}
 use Rattle.lanes.proofs.widen.Tie as tie
 
@@ -17,20 +17,11 @@ Inv-loop line₀ a n src s i₀ line i = (i ≤ n) × Span nan line₀ line a (a
 abbrev μ-loop : tie.MeasureT-loop
 μ-loop line₀ a n src s i₀ line i = n - i
 
-loop-holds : tie.Need-loop-holds Inv-loop μ-loop
-loop-holds c = (omega arith, span-none (omega arith))
-
 loop-again : tie.Need-loop-again Inv-loop μ-loop
 loop-again c =
     let l = c .before .before .before in
     let a = l .before .args in
     (omega arith, span-more (l .loop .inv .1) (omega arith) (omega arith) (omega arith) (ap (λ (k : ℕ). widened (getD (now (a .src)) (a .s + k) 0)) (omega arith)))
-
-same-length : tie.Need-same-length Inv-loop μ-loop
-same-length c = c .before .loop .inv .1 .size
-
-returns : tie.Need-returns Inv-loop μ-loop
-returns c = let e : c .before .loop .i ≡ c .before .before .args .n = omega arith in rw e at (c .before .loop .inv .1)
 
 pub widen-spec : {M : Type 1} → statement M
 widen-spec =
@@ -38,7 +29,7 @@ widen-spec =
     (tie.spec
     Inv-loop
     μ-loop
-    loop-holds
+    (λ c. (omega arith, span-none (omega arith)))
     (λ c. omega arith)
     (λ c. omega arith)
     (λ c. search needs)
@@ -48,5 +39,5 @@ widen-spec =
     (λ c. omega arith)
     (λ c. omega arith)
     loop-again
-    same-length
-    returns)
+    (λ c. c .before .loop .inv .1 .size)
+    (λ c. span-to (c .before .loop .inv .1) (omega arith)))

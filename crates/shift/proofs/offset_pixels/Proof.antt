@@ -1,15 +1,15 @@
 -- A picture is a plane of bytes, four to a pixel, and an offset held to the side moves it as the offset does.
 use mathlib.Core.Path.{_≡_, ap, _∙_}
-use Prim.Native.Nat.{ℕ, _≤_}
+use Prim.Native.Nat.{_≤_}
 use native.Mathlib.Omega.{arith}
 use borrow.Author.Needs.{needs}
 use Rattle.picture.specs.declared.LevelSize.{LevelSize}
 use Rattle.picture.proofs.Sizes.{room-is}
-use Rattle.binary32.specs.Round.{wholeOffset, roundOffset}
+use Rattle.binary32.specs.Round.{wholeOffset}
 use Rattle.binary32.specs.declared.Offset.{Offset}
-use Rattle.binary32.proofs.Offsets.{held, round-offset-held}
+use Rattle.binary32.proofs.Offsets.{held}
 use Rattle.shift.proofs.Pixels.{plane-length, picture-moved}
-use Rattle.shift.proofs.Rounded.{one-way, both-finite}
+use Rattle.shift.proofs.Rounded.{one-way, both-finite, rounded-held}
 use Rattle.shift.proofs.offset_pixels.Statement.{statement}
 use Rattle.shift.proofs.offset_pixels.Tie as tie
 
@@ -25,40 +25,34 @@ height-requires c κs = search needs
 abbrev start : tie.After-height → tie.Start
 start c = c .before .before .before .before
 
--- the sides, as the size has them
-w-is : (c : tie.After-height) → c .before .width .result ≡ start c .args .size .w
-w-is c = c .before .width .ensures ∙ ap (λ (l : LevelSize). l .w) (c .before .before .level-zero .ensures)
+-- the sides are the size's, and have room
+sides : (c : tie.After-height) → (c .before .width .result ≡ start c .args .size .w) × (c .height .result ≡ start c .args .size .h)
+sides c =
+    let z = c .before .before .level-zero .ensures in
+    (c .before .width .ensures ∙ ap (λ (l : LevelSize). l .w) z, c .height .ensures ∙ ap (λ (l : LevelSize). l .h) z)
 
-h-is : (c : tie.After-height) → c .height .result ≡ start c .args .size .h
-h-is c = c .height .ensures ∙ ap (λ (l : LevelSize). l .h) (c .before .before .level-zero .ensures)
-
--- a side has room
 fits : (c : tie.After-height) → (start c .args .size .w ≤ 65536) × (start c .args .size .h ≤ 65536)
 fits c = let z = start c .pre .sized in (omega (arith, z .w-high, room-is), omega (arith, z .h-high, room-is))
 
 round-offset-requires : tie.Need-round-offset-requires
-round-offset-requires c κs = omega (arith, w-is c, fits c)
+round-offset-requires c κs = omega (arith, sides c, fits c)
 
 round-offset-requires-2 : tie.Need-round-offset-requires-2
-round-offset-requires-2 c κs = omega (arith, h-is (c .before), fits (c .before))
+round-offset-requires-2 c κs = omega (arith, sides (c .before), fits (c .before))
 
--- the offsets: rounded, and held to the sides
+-- the offsets are rounded, and held to the sides
 across : (c : tie.After-round-offset2) → c .before .round-offset .result ≡ held (start (c .before .before) .args .size .w) (wholeOffset (start (c .before .before) .args .dx))
 across c =
     let s = start (c .before .before) in
-    c .before .round-offset .ensures
-    ∙ ap (λ (w : ℕ). roundOffset w (s .args .dx)) (w-is (c .before .before))
-    ∙ round-offset-held (s .args .size .w) (s .args .dx) (both-finite (s .args .dx) (s .args .dy) (s .pre .offsets) .0)
+    rounded-held _ _ _ _ (sides (c .before .before) .0) (both-finite (s .args .dx) (s .args .dy) (s .pre .offsets) .0) (c .before .round-offset .ensures)
 
 down : (c : tie.After-round-offset2) → c .round-offset2 .result ≡ held (start (c .before .before) .args .size .h) (wholeOffset (start (c .before .before) .args .dy))
 down c =
     let s = start (c .before .before) in
-    c .round-offset2 .ensures
-    ∙ ap (λ (h : ℕ). roundOffset h (s .args .dy)) (h-is (c .before .before))
-    ∙ round-offset-held (s .args .size .h) (s .args .dy) (both-finite (s .args .dx) (s .args .dy) (s .pre .offsets) .1)
+    rounded-held _ _ _ _ (sides (c .before .before) .1) (both-finite (s .args .dx) (s .args .dy) (s .pre .offsets) .1) (c .round-offset2 .ensures)
 
 mul-move-plane : tie.Need-mul-move-plane
-mul-move-plane c = let m = c .before .before .before in omega (arith, w-is m, fits m)
+mul-move-plane c = let m = c .before .before .before in omega (arith, sides m, fits m)
 
 mul-t14 : tie.Need-mul-t14
 mul-t14 c = let r = c .before .before in omega (arith, ap (λ (o : Offset). o .plus) (across r), fits (r .before .before))
@@ -71,7 +65,7 @@ move-plane-requires c κs =
     let r = c .before .before .before in
     let m = r .before .before in
     let a = start m .args in (
-      plane-length _ _ (a .size .w) (a .size .h) (w-is m) (h-is m) (a .picture .now) (start m .pre .exact),
+      plane-length _ _ (a .size .w) (a .size .h) (sides m .0) (sides m .1) (a .picture .now) (start m .pre .exact),
       rw (across r) (omega (arith, one-way (a .dx))),
       rw (down r) (omega (arith, one-way (a .dy))),
     )
@@ -85,7 +79,7 @@ returns c =
     let m = r .before .before in
     let a = start m .args in
     rw (c .before .before .move-plane .ensures)
-    (picture-moved _ _ (a .size .w) (a .size .h) (w-is m) (h-is m) (a .picture .now) _ _ (wholeOffset (a .dx)) (wholeOffset (a .dy)) (across r) (down r) (one-way (a .dx)) (one-way (a .dy)))
+    (picture-moved _ _ (a .size .w) (a .size .h) (sides m .0) (sides m .1) (a .picture .now) _ _ (wholeOffset (a .dx)) (wholeOffset (a .dy)) (across r) (down r) (one-way (a .dx)) (one-way (a .dy)))
 
 pub offset-pixels-spec : {M : Type 1} → statement M
 offset-pixels-spec =

@@ -1,0 +1,21 @@
+-- Each way out is one case of the definition.
+use borrow.Author.Needs.{needs}
+use Rattle.grading.proofs.Accepted.{refused, accepted}
+use Rattle.grading.proofs.sampling.seen_part.Statement.{statement}
+use Rattle.grading.proofs.sampling.seen_part.Tie as tie
+
+view-refusal-requires : tie.Need-view-refusal-requires
+view-refusal-requires c κs = search needs
+
+slice-aggregate-result : tie.Need-slice-aggregate-result
+slice-aggregate-result c = search needs
+
+returns : tie.Need-returns
+returns c = rw (refused _ _ _ _ (c .before .before .view-refusal .ensures) (c .before .if1 .taken))
+
+returns-2 : tie.Need-returns-2
+returns-2 c = rw (accepted _ _ _ _ (c .before .view-refusal .ensures) (c .if1 .left))
+
+pub seen-part-spec : {M : Type 1} → statement M
+seen-part-spec =
+    tie.close (tie.spec view-refusal-requires slice-aggregate-result returns returns-2)

@@ -1,0 +1,21 @@
+-- A shift by 2n is a product with 4^n.
+use native.Mathlib.Omega.{arith}
+use borrow.Author.Needs.{needs}
+use Rattle.grading.proofs.Scales.{depth-fits, shifted}
+use Rattle.grading.proofs.spread.scale.Statement.{statement}
+use Rattle.grading.proofs.spread.scale.Tie as tie
+
+mul-result : tie.Need-mul-result
+mul-result c = omega (arith, c .pre, depth-fits)
+
+cast-result : tie.Need-cast-result
+cast-result c = search needs
+
+shl-result : tie.Need-shl-result
+shl-result c = omega (arith, c .pre, depth-fits)
+
+returns : tie.Need-returns
+returns c = shifted (c .args .n) (c .pre)
+
+pub scale-spec : {M : Type 1} → statement M
+scale-spec = tie.close (tie.spec mul-result cast-result shl-result returns)
