@@ -1,3 +1,5 @@
--- Laws of blended bytes, for this crate's proofs and for those above it.
+-- Laws of blended bytes and of the outputs that they are, for this crate's proofs.
 pub mod Taps
 pub mod Pixels
+pub mod Places
+pub mod Outputs

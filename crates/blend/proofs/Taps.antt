@@ -10,7 +10,7 @@ use Rattle.edges.specs.declared.At.{At}
 use Rattle.edges.specs.declared.At.the-variants.{Inside, Outside}
 use Rattle.passes.specs.Written.{lane}
 use Rattle.blend.specs.declared.Tap.{Tap}
-use Rattle.blend.specs.Blend.{mixAt, startOf, weightOf, tapOf, Room}
+use Rattle.blend.specs.Blend.{mixAt, startOf, weightOf, tapOf, Blendable}
 
 -- byte k of four taps in their weights, over 8, rounded
 abbrev pub weighted : List ℕ → Tap → Tap → Tap → Tap → ℕ → ℕ
@@ -40,7 +40,7 @@ tap-value p src start stride w k e = rw e (value p)
 
 module _ (a b c d : At) {ta tb tc td : Tap} (src : List ℕ) (start stride : ℕ)
     (ea : ta ≡ tapOf a start stride 1) (eb : tb ≡ tapOf b start stride 3) (ec : tc ≡ tapOf c start stride 3) (ed : td ≡ tapOf d start stride 1) where
-  pub taps-fit : {dst : List ℕ} {o : ℕ} → Room src dst a b c d start stride o → Fit ta tb tc td stride (length src)
+  pub taps-fit : {dst : List ℕ} {o : ℕ} → Blendable src dst a b c d start stride o → Fit ta tb tc td stride (length src)
   taps-fit r =
       rw (ea, eb, ec, ed)
       record {

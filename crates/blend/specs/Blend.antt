@@ -30,7 +30,7 @@ abbrev pub tapOf : At → ℕ → ℕ → ℕ → Tap
 tapOf p start stride weight = record { at = startOf p start stride; weight = weightOf p weight }
 
 -- four places whose bytes lie within src, and an element within dst
-pub record Room (src dst : List ℕ) (a b c d : At) (start stride o : ℕ) : Type 0 where
+pub record Blendable (src dst : List ℕ) (a b c d : At) (start stride o : ℕ) : Type 0 where
   pub a-ends : startOf a start stride + stride ≤ length src
   pub b-ends : startOf b start stride + stride ≤ length src
   pub c-ends : startOf c start stride + stride ≤ length src

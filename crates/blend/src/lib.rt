@@ -1,24 +1,27 @@
-// Bytes blended in weights 1, 3, 3, 1 over 8: of four places of a line, and of four pixels.
+// Bytes blended in weights 1, 3, 3, 1 over 8, and by them one output of a halved or doubled line.
 ghost use mathlib.Core.Path.{_≡_};
 ghost use Prim.Native.Nat.{_+_, _*_, _/_, _≤_, _<_, _^_};
 ghost use lib.ListN.{length};
+ghost use Rattle.picture.specs.Sizes.{sideRoom};
 ghost use Rattle.edges.specs.Edges.{place, Reach};
+ghost use Rattle.passes.specs.Passes.{halve, double};
 ghost use Rattle.passes.specs.Written.{lane, Run};
-ghost use Rattle.blend.specs.Blend.{mixAt, startOf, tapOf, Room};
+ghost use Rattle.blend.specs.Blend.{mixAt, startOf, tapOf, Blendable};
 ghost use Rattle.blend.specs.Pixels.{byteOf, pixelAt, mixPixels};
+ghost use Rattle.blend.specs.Made.{Room, MadeInside};
 use edges::At;
 use edges::extend;
 use picture::EdgeMode;
 use picture::Pixel;
 
 // Where the bytes of a place start, and the weight that they have.
-pub struct Tap {
-    pub at: usize,
-    pub weight: u16,
+struct Tap {
+    at: usize,
+    weight: u16,
 }
 
 // The place that the coordinate c - d reads. Most lie inside, where every edge rule says the same.
-pub fn find_place(c: usize, d: usize, s: usize, mode: EdgeMode) -> At
+fn find_place(c: usize, d: usize, s: usize, mode: EdgeMode) -> At
     requires { ⌜ Reach s c d ⌝ }
     ensures { λ r. ⌜ r ≡ place mode s c d ⌝ }
 {
@@ -56,7 +59,7 @@ fn blend(a: u8, b: u8, c: u8, d: u8, wa: u16, wb: u16, wc: u16, wd: u16) -> u8
 }
 
 // The bytes of four places of a line, blended into an element at o.
-pub fn blend_element(
+fn blend_element(
     src: &[u8],
     a: At,
     b: At,
@@ -67,7 +70,7 @@ pub fn blend_element(
     dst: &mut [u8],
     o: usize,
 )
-    requires { ⌜ Room (now src) (now dst) a b c d start stride o ⌝ }
+    requires { ⌜ Blendable (now src) (now dst) a b c d start stride o ⌝ }
     ensures { λ _. ⌜ Run (now (dst .entry)) (now (dst .exit)) o stride (λ k. mixAt a b c d (lane (now (src .entry)) start stride k)) ⌝ }
 {
     let ta = tap_of(a, start, stride, 1);
@@ -94,11 +97,12 @@ pub fn blend_element(
     }
 }
 
-// The pixel whose bytes start at `at`.
-pub fn read_pixel(src: &[u8], at: usize) -> Pixel
-    requires { ⌜ at + 4 ≤ length (now src) ⌝ }
-    ensures { λ r. ⌜ r ≡ pixelAt (now (src .entry)) at ⌝ }
+// Pixel i of the row at start.
+fn read_pixel(src: &[u8], start: usize, i: usize) -> Pixel
+    requires { ⌜ start + i * 4 + 4 ≤ length (now src) ⌝ }
+    ensures { λ r. ⌜ r ≡ pixelAt (now (src .entry)) (start + i * 4) ⌝ }
 {
+    let at = start + i * 4;
     Pixel {
         r: src[at],
         g: src[at + 1],
@@ -108,7 +112,7 @@ pub fn read_pixel(src: &[u8], at: usize) -> Pixel
 }
 
 // Four pixels blended, channel by channel.
-pub fn blend_pixels(p: Pixel, q: Pixel, r: Pixel, s: Pixel) -> Pixel
+fn blend_pixels(p: Pixel, q: Pixel, r: Pixel, s: Pixel) -> Pixel
     ensures { λ m. ⌜ m ≡ mixPixels p q r s ⌝ }
 {
     Pixel {
@@ -119,13 +123,86 @@ pub fn blend_pixels(p: Pixel, q: Pixel, r: Pixel, s: Pixel) -> Pixel
     }
 }
 
-// A pixel's bytes, at o.
-pub fn write_pixel(dst: &mut [u8], o: usize, p: Pixel)
-    requires { ⌜ o + 4 ≤ length (now dst) ⌝ }
-    ensures { λ _. ⌜ Run (now (dst .entry)) (now (dst .exit)) o 4 (byteOf p) ⌝ }
+// Pixel i of the row at o, written.
+fn write_pixel(dst: &mut [u8], o: usize, i: usize, p: Pixel)
+    requires { ⌜ o + i * 4 + 4 ≤ length (now dst) ⌝ }
+    ensures { λ _. ⌜ Run (now (dst .entry)) (now (dst .exit)) (o + i * 4) 4 (byteOf p) ⌝ }
 {
-    dst[o] = p.r;
-    dst[o + 1] = p.g;
-    dst[o + 2] = p.b;
-    dst[o + 3] = p.a;
+    let at = o + i * 4;
+    dst[at] = p.r;
+    dst[at + 1] = p.g;
+    dst[at + 2] = p.b;
+    dst[at + 3] = p.a;
+}
+
+// Output x of a line of len elements, halved: an element at o.
+pub fn halve_element(
+    src: &[u8],
+    start: usize,
+    stride: usize,
+    len: usize,
+    dst: &mut [u8],
+    o: usize,
+    x: usize,
+    mode: EdgeMode,
+)
+    requires { ⌜ (x < 2 * sideRoom) × Room (now src) (now dst) start stride len o 1 ⌝ }
+    ensures { λ _. ⌜ Run (now (dst .entry)) (now (dst .exit)) o stride (λ k. halve mode len (lane (now (src .entry)) start stride k) x) ⌝ }
+{
+    let a = find_place(2 * x, 1, len, mode);
+    let b = find_place(2 * x, 0, len, mode);
+    let c = find_place(2 * x + 1, 0, len, mode);
+    let d = find_place(2 * x + 2, 0, len, mode);
+    blend_element(src, a, b, c, d, start, stride, dst, o);
+}
+
+// Output y of a line of len elements, doubled: weights 1, 3 over 4 are weights 1, 3, 3, 1 over 8.
+pub fn double_element(
+    src: &[u8],
+    start: usize,
+    stride: usize,
+    len: usize,
+    dst: &mut [u8],
+    o: usize,
+    y: usize,
+    mode: EdgeMode,
+)
+    requires { ⌜ (y < 2 * sideRoom) × Room (now src) (now dst) start stride len o 1 ⌝ }
+    ensures { λ _. ⌜ Run (now (dst .entry)) (now (dst .exit)) o stride (λ k. double mode len (lane (now (src .entry)) start stride k) y) ⌝ }
+{
+    let x = y / 2;
+    let b = find_place(x, 0, len, mode);
+    if y % 2 == 0 {
+        let a = find_place(x, 1, len, mode);
+        blend_element(src, a, b, b, a, start, stride, dst, o);
+    } else {
+        let c = find_place(x + 1, 0, len, mode);
+        blend_element(src, c, b, b, c, start, stride, dst, o);
+    }
+}
+
+// Output x of a row, halved, whose samples lie inside.
+pub fn halve_pixel(src: &[u8], start: usize, len: usize, dst: &mut [u8], o: usize, x: usize)
+    requires { ⌜ (0 < x) × (2 * x + 2 < len) × Room (now src) (now dst) start 4 len o (x + 1) ⌝ }
+    ensures { λ _. ⌜ MadeInside halve (now (src .entry)) (now (dst .entry)) (now (dst .exit)) start len o x (x + 1) ⌝ }
+{
+    let at = 2 * x;
+    let p = read_pixel(src, start, at - 1);
+    let q = read_pixel(src, start, at);
+    let r = read_pixel(src, start, at + 1);
+    let s = read_pixel(src, start, at + 2);
+    write_pixel(dst, o, x, blend_pixels(p, q, r, s));
+}
+
+// Outputs 2x and 2x + 1 of a row, doubled, whose samples lie inside.
+pub fn double_pixel(src: &[u8], start: usize, len: usize, dst: &mut [u8], o: usize, x: usize)
+    requires { ⌜ (0 < x) × (x + 1 < len) × Room (now src) (now dst) start 4 len o (2 * x + 2) ⌝ }
+    ensures { λ _. ⌜ MadeInside double (now (src .entry)) (now (dst .entry)) (now (dst .exit)) start len o (2 * x) (2 * x + 2) ⌝ }
+{
+    let at = 2 * x;
+    let p = read_pixel(src, start, x - 1);
+    let q = read_pixel(src, start, x);
+    let r = read_pixel(src, start, x + 1);
+    write_pixel(dst, o, at, blend_pixels(p, q, q, p));
+    write_pixel(dst, o, at + 1, blend_pixels(r, q, q, r));
 }

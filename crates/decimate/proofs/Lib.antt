@@ -1,5 +1,3 @@
 -- Laws of halving and doubling, for this crate's proofs.
-pub mod Places
-pub mod Outputs
 pub mod Sizes
 pub mod Levels

@@ -1,4 +1,3 @@
 -- The definitions that contracts cite of halving and doubling lines and levels.
 pub mod Resize
 pub mod Room
-pub mod Made

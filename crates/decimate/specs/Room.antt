@@ -1,19 +1,12 @@
 -- What lines and levels need: lengths that are exact or suffice, and sides that the arithmetic has room for.
 use mathlib.Core.Path.{_≡_}
 use mathlib.Core.List.{List}
-use Prim.Native.Nat.{ℕ, _+_, _*_, _≤_, _<_}
+use Prim.Native.Nat.{ℕ, _*_, _≤_, _<_}
 use lib.ListN.{length}
 use Rattle.picture.specs.Sizes.{sideRoom, levelBytes, Sized}
 use Rattle.picture.specs.declared.LevelSize.{LevelSize}
 use Rattle.decimate.specs.declared.Resize.{Resize}
 use Rattle.decimate.specs.Resize.{Makes}
-
--- a line of len elements within src, and n elements at o within dst
-pub record Room (src dst : List ℕ) (start stride len o n : ℕ) : Type 0 where
-  pub len-low : 0 < len
-  pub len-high : len ≤ sideRoom
-  pub src-ends : start + len * stride ≤ length src
-  pub dst-ends : o + n * stride ≤ length dst
 
 -- lines of len elements are all of src, and as many of out elements all of dst
 pub record Lines (kind : Resize) (src dst : List ℕ) (lines len out stride : ℕ) : Type 0 where

@@ -1,19 +1,18 @@
 // Halving and doubling of lines, rows and columns alike, and of whole levels.
 ghost use mathlib.Core.Path.{_≡_};
 ghost use Prim.Native.Nat.{_+_, _*_, _≤_, _<_};
-ghost use lib.ListN.{length, take};
-ghost use Rattle.picture.specs.Sizes.{sideRoom, halfLevel, levelBytes, Sized};
+ghost use lib.ListN.{take};
+ghost use Rattle.picture.specs.Sizes.{sideRoom, halfLevel, levelBytes};
 ghost use Rattle.passes.specs.Passes.{halve, double};
 ghost use Rattle.passes.specs.Written.{lane, passed, Run};
 ghost use Rattle.passes.specs.Levels.{levelPass};
+ghost use Rattle.blend.specs.Made.{Room, Made, MadeInside};
 ghost use Rattle.decimate.specs.Resize.{passOf, Makes, innerFrom, innerTo};
-ghost use Rattle.decimate.specs.Room.{Room, Lines, Levels, Buffers};
-ghost use Rattle.decimate.specs.Made.{Made, MadeInside};
-use blend::blend_element;
-use blend::blend_pixels;
-use blend::find_place;
-use blend::read_pixel;
-use blend::write_pixel;
+ghost use Rattle.decimate.specs.Room.{Lines, Levels, Buffers};
+use blend::double_element;
+use blend::double_pixel;
+use blend::halve_element;
+use blend::halve_pixel;
 use picture::EdgeMode;
 use picture::LevelSize;
 
@@ -21,52 +20,6 @@ use picture::LevelSize;
 pub enum Resize {
     Halve,
     Double,
-}
-
-// Output x of a line of len elements, halved: an element at o.
-fn halve_element(
-    src: &[u8],
-    start: usize,
-    stride: usize,
-    len: usize,
-    dst: &mut [u8],
-    o: usize,
-    x: usize,
-    mode: EdgeMode,
-)
-    requires { ⌜ (x < 2 * sideRoom) × Room (now src) (now dst) start stride len o 1 ⌝ }
-    ensures { λ _. ⌜ Run (now (dst .entry)) (now (dst .exit)) o stride (λ k. halve mode len (lane (now (src .entry)) start stride k) x) ⌝ }
-{
-    let a = find_place(2 * x, 1, len, mode);
-    let b = find_place(2 * x, 0, len, mode);
-    let c = find_place(2 * x + 1, 0, len, mode);
-    let d = find_place(2 * x + 2, 0, len, mode);
-    blend_element(src, a, b, c, d, start, stride, dst, o);
-}
-
-// Output y of a line of len elements, doubled: weights 1, 3 over 4 are weights 1, 3, 3, 1 over 8.
-fn double_element(
-    src: &[u8],
-    start: usize,
-    stride: usize,
-    len: usize,
-    dst: &mut [u8],
-    o: usize,
-    y: usize,
-    mode: EdgeMode,
-)
-    requires { ⌜ (y < 2 * sideRoom) × Room (now src) (now dst) start stride len o 1 ⌝ }
-    ensures { λ _. ⌜ Run (now (dst .entry)) (now (dst .exit)) o stride (λ k. double mode len (lane (now (src .entry)) start stride k) y) ⌝ }
-{
-    let x = y / 2;
-    let b = find_place(x, 0, len, mode);
-    if y % 2 == 0 {
-        let a = find_place(x, 1, len, mode);
-        blend_element(src, a, b, b, a, start, stride, dst, o);
-    } else {
-        let c = find_place(x + 1, 0, len, mode);
-        blend_element(src, c, b, b, c, start, stride, dst, o);
-    }
 }
 
 // Output y of a line of len elements.
@@ -104,37 +57,13 @@ fn resize_part(
     kind: Resize,
 )
     requires { ⌜ (from ≤ to) × (to ≤ 2 * sideRoom) × Room (now src) (now dst) start stride len o to ⌝ }
-    ensures { λ _. ⌜ Made kind mode (now (src .entry)) (now (dst .entry)) (now (dst .exit)) start stride len o from to ⌝ }
+    ensures { λ _. ⌜ Made (passOf kind mode) (now (src .entry)) (now (dst .entry)) (now (dst .exit)) start stride len o from to ⌝ }
 {
     let mut y: usize = from;
     while y < to {
         resize_element(src, start, stride, len, dst, o + y * stride, y, mode, kind);
         y += 1;
     }
-}
-
-// Output x of a row, halved, whose samples lie inside.
-fn halve_pixel(src: &[u8], start: usize, len: usize, dst: &mut [u8], o: usize, x: usize)
-    requires { ⌜ (0 < x) × (2 * x + 2 < len) × Room (now src) (now dst) start 4 len o (x + 1) ⌝ }
-    ensures { λ _. ⌜ MadeInside Resize.Halve (now (src .entry)) (now (dst .entry)) (now (dst .exit)) start len o x (x + 1) ⌝ }
-{
-    let p = read_pixel(src, start + (2 * x - 1) * 4);
-    let q = read_pixel(src, start + 2 * x * 4);
-    let r = read_pixel(src, start + (2 * x + 1) * 4);
-    let s = read_pixel(src, start + (2 * x + 2) * 4);
-    write_pixel(dst, o + x * 4, blend_pixels(p, q, r, s));
-}
-
-// Outputs 2x and 2x + 1 of a row, doubled, whose samples lie inside.
-fn double_pixel(src: &[u8], start: usize, len: usize, dst: &mut [u8], o: usize, x: usize)
-    requires { ⌜ (0 < x) × (x + 1 < len) × Room (now src) (now dst) start 4 len o (2 * x + 2) ⌝ }
-    ensures { λ _. ⌜ MadeInside Resize.Double (now (src .entry)) (now (dst .entry)) (now (dst .exit)) start len o (2 * x) (2 * x + 2) ⌝ }
-{
-    let p = read_pixel(src, start + (x - 1) * 4);
-    let q = read_pixel(src, start + x * 4);
-    let r = read_pixel(src, start + (x + 1) * 4);
-    write_pixel(dst, o + 2 * x * 4, blend_pixels(p, q, q, p));
-    write_pixel(dst, o + (2 * x + 1) * 4, blend_pixels(r, q, q, r));
 }
 
 // The first output of a row whose samples lie inside, ..
@@ -160,7 +89,7 @@ fn inner_to(len: usize, kind: Resize) -> usize
 
 fn halve_inner(src: &[u8], start: usize, len: usize, dst: &mut [u8], o: usize)
     requires { ⌜ (2 < len) × Room (now src) (now dst) start 4 len o (innerTo Resize.Halve len) ⌝ }
-    ensures { λ _. ⌜ MadeInside Resize.Halve (now (src .entry)) (now (dst .entry)) (now (dst .exit)) start len o (innerFrom Resize.Halve) (innerTo Resize.Halve len) ⌝ }
+    ensures { λ _. ⌜ MadeInside halve (now (src .entry)) (now (dst .entry)) (now (dst .exit)) start len o (innerFrom Resize.Halve) (innerTo Resize.Halve len) ⌝ }
 {
     let mut x: usize = 1;
     while 2 * x + 2 < len {
@@ -171,7 +100,7 @@ fn halve_inner(src: &[u8], start: usize, len: usize, dst: &mut [u8], o: usize)
 
 fn double_inner(src: &[u8], start: usize, len: usize, dst: &mut [u8], o: usize)
     requires { ⌜ (2 < len) × Room (now src) (now dst) start 4 len o (innerTo Resize.Double len) ⌝ }
-    ensures { λ _. ⌜ MadeInside Resize.Double (now (src .entry)) (now (dst .entry)) (now (dst .exit)) start len o (innerFrom Resize.Double) (innerTo Resize.Double len) ⌝ }
+    ensures { λ _. ⌜ MadeInside double (now (src .entry)) (now (dst .entry)) (now (dst .exit)) start len o (innerFrom Resize.Double) (innerTo Resize.Double len) ⌝ }
 {
     let mut x: usize = 1;
     while x + 1 < len {
@@ -183,7 +112,7 @@ fn double_inner(src: &[u8], start: usize, len: usize, dst: &mut [u8], o: usize)
 // The outputs of a row whose samples lie inside.
 fn resize_inner(src: &[u8], start: usize, len: usize, dst: &mut [u8], o: usize, kind: Resize)
     requires { ⌜ (2 < len) × Room (now src) (now dst) start 4 len o (innerTo kind len) ⌝ }
-    ensures { λ _. ⌜ MadeInside kind (now (src .entry)) (now (dst .entry)) (now (dst .exit)) start len o (innerFrom kind) (innerTo kind len) ⌝ }
+    ensures { λ _. ⌜ MadeInside (passOf kind) (now (src .entry)) (now (dst .entry)) (now (dst .exit)) start len o (innerFrom kind) (innerTo kind len) ⌝ }
 {
     match kind {
         Resize::Halve => halve_inner(src, start, len, dst, o),
@@ -203,7 +132,7 @@ fn resize_row(
     kind: Resize,
 )
     requires { ⌜ (2 < len) × Makes kind len out × Room (now src) (now dst) start 4 len o out ⌝ }
-    ensures { λ _. ⌜ Made kind mode (now (src .entry)) (now (dst .entry)) (now (dst .exit)) start 4 len o 0 out ⌝ }
+    ensures { λ _. ⌜ Made (passOf kind mode) (now (src .entry)) (now (dst .entry)) (now (dst .exit)) start 4 len o 0 out ⌝ }
 {
     let from = inner_from(kind);
     let to = inner_to(len, kind);
@@ -225,7 +154,7 @@ fn resize_line(
     kind: Resize,
 )
     requires { ⌜ Makes kind len out × Room (now src) (now dst) start stride len o out ⌝ }
-    ensures { λ _. ⌜ Made kind mode (now (src .entry)) (now (dst .entry)) (now (dst .exit)) start stride len o 0 out ⌝ }
+    ensures { λ _. ⌜ Made (passOf kind mode) (now (src .entry)) (now (dst .entry)) (now (dst .exit)) start stride len o 0 out ⌝ }
 {
     if stride == 4 {
         if 2 < len {
@@ -277,8 +206,8 @@ fn resize_level(
     let v = t.width();
     let u = t.height();
     let before = s.bytes();
-    let between = h * (v * 4);
     let after = t.bytes();
+    let between = h * (v * 4);
     resize_lines(
         &picture[..before],
         &mut scratch[..between],

@@ -1,22 +1,17 @@
 -- A pass over rows and then over columns is the pass of a level, and looks only at that level's pixels.
 use mathlib.Core.Path.{_≡_, _∙_, ap}
 use mathlib.Core.List.{List}
-use Prim.Native.Nat.{ℕ, _*_, _<_}
+use Prim.Native.Nat.{ℕ, _*_}
 use Rattle.picture.specs.Planes.{Plane, chan, painted}
 use Rattle.picture.specs.Sizes.{Sized}
 use Rattle.picture.specs.declared.LevelSize.{LevelSize}
-use Rattle.picture.proofs.Planes.{length-painted, chan-painted, painted-ext}
+use Rattle.picture.proofs.Planes.{chan-painted, painted-same}
 use Rattle.passes.specs.Passes.{Pass, rows}
 use Rattle.passes.specs.Blur.{both}
 use Rattle.passes.specs.Levels.{levelPass}
 use Rattle.passes.specs.Written.{passed}
 use Rattle.passes.proofs.Planes.{rows-passed, cols-passed}
 use Rattle.passes.proofs.Local.{Local, both-local}
-
--- planes that agree inside the picture are painted the same
-pub painted-same : (w h : ℕ) (F G : ℕ → Plane) → ((c x y : ℕ) → c < 4 → x < w → y < h → F c x y ≡ G c x y) → painted w h F ≡ painted w h G
-painted-same w h F G e =
-    painted-ext w h G (painted w h F) (length-painted w h F) (λ c x y lc lx ly. chan-painted w h F c x y lc lx ly ∙ e c x y lc lx ly)
 
 module _ (f : Pass) (l : Local f) (s t : LevelSize) (z : Sized s) where
   -- rows of src into t's width, then columns of what they became into t's height

@@ -1,4 +1,5 @@
 -- One byte after another is written.
+use Prim.Native.Nat.{_+_, _*_}
 use native.Mathlib.Omega.{arith}
 use denote.Ref.{now}
 use lib.ListN.{length-set}
@@ -6,6 +7,12 @@ use borrow.Author.Needs.{needs}
 use Rattle.blend.proofs.Pixels.{pixel-run}
 use Rattle.blend.proofs.write_pixel.Statement.{statement}
 use Rattle.blend.proofs.write_pixel.Tie as tie
+
+mul-at : tie.Need-mul-at
+mul-at c = search needs
+
+add-at : tie.Need-add-at
+add-at c = search needs
 
 slice-write-dst : tie.Need-slice-write-dst
 slice-write-dst c = search needs
@@ -32,12 +39,14 @@ same-length : tie.Need-same-length
 same-length c = search needs
 
 returns : tie.Need-returns
-returns c = pixel-run (now (c .args .dst)) (c .args .o) (c .args .p) (c .pre)
+returns c = pixel-run (now (c .args .dst)) (c .args .o + c .args .i * 4) (c .args .p) (c .pre)
 
 pub write-pixel-spec : {M : Type 1} → statement M
 write-pixel-spec =
     tie.close
     (tie.spec
+    mul-at
+    add-at
     slice-write-dst
     add-dst
     slice-write-dst-2

@@ -5,14 +5,14 @@ use native.Mathlib.Omega.{arith}
 use lib.ListN.{length}
 use Rattle.picture.proofs.Sizes.{room-is}
 use Rattle.passes.proofs.Written.{part-none, part-join}
-use Rattle.decimate.specs.declared.Resize.the-variants.{Halve}
-use Rattle.decimate.specs.Made.{MadeInside}
+use Rattle.passes.specs.Passes.{halve}
+use Rattle.blend.specs.Made.{MadeInside}
 use Rattle.decimate.proofs.halve_inner.Statement.{statement}
 use Rattle.decimate.proofs.halve_inner.Tie as tie
 
 abbrev Inv-loop : tie.InvT-loop
 Inv-loop src start len dst₀ o x₀ dst x =
-    (1 ≤ x) × (2 * x + 1 ≤ len) × (length dst ≡ length dst₀) × MadeInside Halve src dst₀ dst start len o 1 x
+    (1 ≤ x) × (2 * x + 1 ≤ len) × (length dst ≡ length dst₀) × MadeInside halve src dst₀ dst start len o 1 x
 
 abbrev μ-loop : tie.MeasureT-loop
 μ-loop src start len dst₀ o x₀ dst x = len - x

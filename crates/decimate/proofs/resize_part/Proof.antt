@@ -4,13 +4,14 @@ use Prim.Native.Nat.{_+_, _*_, _-_, _≤_}
 use native.Mathlib.Omega.{arith}
 use lib.ListN.{length}
 use Rattle.passes.proofs.Written.{within, part-none, part-one, part-join}
-use Rattle.decimate.specs.Made.{Made}
+use Rattle.blend.specs.Made.{Made}
+use Rattle.decimate.specs.Resize.{passOf}
 use Rattle.decimate.proofs.resize_part.Statement.{statement}
 use Rattle.decimate.proofs.resize_part.Tie as tie
 
 abbrev Inv-loop : tie.InvT-loop
 Inv-loop src start stride len dst₀ o from to mode kind y₀ dst y =
-    (from ≤ y) × (y ≤ to) × (length dst ≡ length dst₀) × Made kind mode src dst₀ dst start stride len o from y
+    (from ≤ y) × (y ≤ to) × (length dst ≡ length dst₀) × Made (passOf kind mode) src dst₀ dst start stride len o from y
 
 abbrev μ-loop : tie.MeasureT-loop
 μ-loop src start stride len dst₀ o from to mode kind y₀ dst y = to - y

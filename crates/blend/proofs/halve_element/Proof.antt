@@ -6,10 +6,10 @@ use borrow.Author.Needs.{needs}
 use Rattle.picture.proofs.Sizes.{room-is}
 use Rattle.passes.specs.Written.{lane}
 use Rattle.passes.proofs.Written.{run-same}
-use Rattle.decimate.proofs.Places.{places-room}
-use Rattle.decimate.proofs.Outputs.{halved}
-use Rattle.decimate.proofs.halve_element.Statement.{statement}
-use Rattle.decimate.proofs.halve_element.Tie as tie
+use Rattle.blend.proofs.Places.{places-room}
+use Rattle.blend.proofs.Outputs.{halved}
+use Rattle.blend.proofs.halve_element.Statement.{statement}
+use Rattle.blend.proofs.halve_element.Tie as tie
 
 mul-find-place : tie.Need-mul-find-place
 mul-find-place c = omega (arith, room-is)

@@ -6,10 +6,10 @@ use borrow.Author.Needs.{needs}
 use Rattle.picture.proofs.Sizes.{room-is}
 use Rattle.passes.specs.Written.{lane}
 use Rattle.passes.proofs.Written.{run-same}
-use Rattle.decimate.proofs.Places.{places-room}
-use Rattle.decimate.proofs.Outputs.{doubled-even, doubled-odd}
-use Rattle.decimate.proofs.double_element.Statement.{statement}
-use Rattle.decimate.proofs.double_element.Tie as tie
+use Rattle.blend.proofs.Places.{places-room}
+use Rattle.blend.proofs.Outputs.{doubled-even, doubled-odd}
+use Rattle.blend.proofs.double_element.Statement.{statement}
+use Rattle.blend.proofs.double_element.Tie as tie
 
 find-place-requires : tie.Need-find-place-requires
 find-place-requires c κs = omega (arith, room-is)

@@ -2,14 +2,14 @@
 use mathlib.Core.Path.{_≡_, refl}
 use Prim.Native.Nat.{ℕ, _+_, _-_, _*_, _/_, _%_, _<_}
 use native.Mathlib.Omega.{arith}
-use borrow.Author.Tests.{eq-eqb, ne-eqb}
+use borrow.Author.Tests.{eq-eqb}
 use Rattle.picture.specs.Planes.{Line}
 use Rattle.picture.specs.declared.EdgeMode.{EdgeMode}
 use Rattle.edges.specs.Edges.{place, sample}
 use Rattle.edges.specs.declared.At.{At}
 use Rattle.passes.specs.Passes.{halve, double}
 use Rattle.blend.specs.Blend.{mix, mixAt}
-use Rattle.decimate.proofs.Places.{inside}
+use Rattle.blend.proofs.Places.{inside}
 
 module _ (mode : EdgeMode) (s x : ℕ) (line : Line) {a b c d : At} where
   pub halved : a ≡ place mode s (2 * x) 1 → b ≡ place mode s (2 * x) 0 → c ≡ place mode s (2 * x + 1) 0 → d ≡ place mode s (2 * x + 2) 0 →

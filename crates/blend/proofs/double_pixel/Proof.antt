@@ -1,0 +1,98 @@
+-- The three pixels read are doubling's samples.
+use mathlib.Core.Path.{_≡_, _∙_}
+use Prim.Native.Nat.{_+_, _-_, _*_}
+use native.Mathlib.Omega.{arith}
+use denote.Ref.{now}
+use borrow.Author.Needs.{needs}
+use Rattle.passes.specs.Passes.{double}
+use Rattle.passes.specs.Written.{lane}
+use Rattle.passes.proofs.Written.{run-same, part-one, part-join}
+use Rattle.blend.proofs.Pixels.{pixels-mix}
+use Rattle.blend.proofs.Outputs.{even-inside, odd-inside}
+use Rattle.blend.proofs.double_pixel.Statement.{statement}
+use Rattle.blend.proofs.double_pixel.Tie as tie
+
+mul-at : tie.Need-mul-at
+mul-at c = search needs
+
+sub-read-pixel : tie.Need-sub-read-pixel
+sub-read-pixel c = search needs
+
+read-pixel-requires : tie.Need-read-pixel-requires
+read-pixel-requires c κs = search needs
+
+read-pixel-requires-2 : tie.Need-read-pixel-requires-2
+read-pixel-requires-2 c κs = search needs
+
+add-read-pixel : tie.Need-add-read-pixel
+add-read-pixel c = search needs
+
+read-pixel-requires-3 : tie.Need-read-pixel-requires-3
+read-pixel-requires-3 c κs = search needs
+
+blend-pixels-requires : tie.Need-blend-pixels-requires
+blend-pixels-requires c κs = search needs
+
+write-pixel-requires : tie.Need-write-pixel-requires
+write-pixel-requires c κs = search needs
+
+add-write-pixel : tie.Need-add-write-pixel
+add-write-pixel c = search needs
+
+blend-pixels-requires-2 : tie.Need-blend-pixels-requires-2
+blend-pixels-requires-2 c κs = search needs
+
+write-pixel-requires-2 : tie.Need-write-pixel-requires-2
+write-pixel-requires-2 c κs = omega (arith, c .before .before .before .before .before)
+
+same-length : tie.Need-same-length
+same-length c = search needs
+
+returns : tie.Need-returns
+returns c =
+    let w2 = c .before .before in
+    let m2 = w2 .before in
+    let w1 = m2 .before .before .before .before in
+    let m1 = w1 .before in
+    let r3 = m1 .before .before in
+    let r2 = r3 .before in
+    let r1 = r2 .before in
+    let st = r1 .before .before .before in
+    let a = st .args in
+    let x = a .x in
+    let src = now (a .src) in
+    let low = r1 .read-pixel .ensures in
+    let near = r2 .read-pixel2 .ensures in
+    let high = r3 .read-pixel3 .ensures in
+    let two : 2 * x + 1 + 1 ≡ 2 * x + 2 = omega arith in
+    λ mode.
+    rw two at
+    (part-join {f = λ y k. double mode (a .len) (lane src (a .start) 4 k) y} (omega arith) (omega arith)
+    (part-one
+    (run-same (w1 .write-pixel .ensures)
+    (λ k l.
+    pixels-mix src (a .start) (x - 1) x x (x - 1) low near near low (m1 .blend-pixels .ensures) k l
+    ∙ even-inside mode (a .len) x (lane src (a .start) 4 k) (st .pre .0) (omega arith))))
+    (part-one
+    (run-same (w2 .write-pixel2 .ensures)
+    (λ k l.
+    pixels-mix src (a .start) (x + 1) x x (x + 1) high near near high (m2 .blend-pixels2 .ensures) k l
+    ∙ odd-inside mode (a .len) x (lane src (a .start) 4 k) (omega arith)))))
+
+pub double-pixel-spec : {M : Type 1} → statement M
+double-pixel-spec =
+    tie.close
+    (tie.spec
+    mul-at
+    sub-read-pixel
+    read-pixel-requires
+    read-pixel-requires-2
+    add-read-pixel
+    read-pixel-requires-3
+    blend-pixels-requires
+    write-pixel-requires
+    add-write-pixel
+    blend-pixels-requires-2
+    write-pixel-requires-2
+    same-length
+    returns)

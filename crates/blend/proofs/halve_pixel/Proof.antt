@@ -1,0 +1,79 @@
+-- The four pixels read are halving's samples.
+use mathlib.Core.Path.{_∙_}
+use Prim.Native.Nat.{_+_, _-_, _*_}
+use denote.Ref.{now}
+use borrow.Author.Needs.{needs}
+use Rattle.passes.specs.Written.{lane}
+use Rattle.passes.proofs.Written.{run-same, part-one}
+use Rattle.blend.proofs.Pixels.{pixels-mix}
+use Rattle.blend.proofs.Outputs.{halved-inside}
+use Rattle.blend.proofs.halve_pixel.Statement.{statement}
+use Rattle.blend.proofs.halve_pixel.Tie as tie
+
+mul-at : tie.Need-mul-at
+mul-at c = search needs
+
+sub-read-pixel : tie.Need-sub-read-pixel
+sub-read-pixel c = search needs
+
+read-pixel-requires : tie.Need-read-pixel-requires
+read-pixel-requires c κs = search needs
+
+read-pixel-requires-2 : tie.Need-read-pixel-requires-2
+read-pixel-requires-2 c κs = search needs
+
+add-read-pixel : tie.Need-add-read-pixel
+add-read-pixel c = search needs
+
+read-pixel-requires-3 : tie.Need-read-pixel-requires-3
+read-pixel-requires-3 c κs = search needs
+
+add-read-pixel-2 : tie.Need-add-read-pixel-2
+add-read-pixel-2 c = search needs
+
+read-pixel-requires-4 : tie.Need-read-pixel-requires-4
+read-pixel-requires-4 c κs = search needs
+
+blend-pixels-requires : tie.Need-blend-pixels-requires
+blend-pixels-requires c κs = search needs
+
+write-pixel-requires : tie.Need-write-pixel-requires
+write-pixel-requires c κs = search needs
+
+same-length : tie.Need-same-length
+same-length c = search needs
+
+returns : tie.Need-returns
+returns c =
+    let w = c .before .before in
+    let m = w .before in
+    let r4 = m .before .before in
+    let r3 = r4 .before in
+    let r2 = r3 .before in
+    let r1 = r2 .before in
+    let st = r1 .before .before .before in
+    let a = st .args in
+    let at = 2 * a .x in
+    λ mode.
+    part-one
+    (run-same (w .write-pixel .ensures)
+    (λ k l.
+    pixels-mix (now (a .src)) (a .start) (at - 1) at (at + 1) (at + 2) (r1 .read-pixel .ensures) (r2 .read-pixel2 .ensures) (r3 .read-pixel3 .ensures) (r4 .read-pixel4 .ensures) (m .blend-pixels .ensures) k l
+    ∙ halved-inside mode (a .len) (a .x) (lane (now (a .src)) (a .start) 4 k) (st .pre .0) (st .pre .1)))
+
+pub halve-pixel-spec : {M : Type 1} → statement M
+halve-pixel-spec =
+    tie.close
+    (tie.spec
+    mul-at
+    sub-read-pixel
+    read-pixel-requires
+    read-pixel-requires-2
+    add-read-pixel
+    read-pixel-requires-3
+    add-read-pixel-2
+    read-pixel-requires-4
+    blend-pixels-requires
+    write-pixel-requires
+    same-length
+    returns)
