@@ -22,7 +22,7 @@ pub enum Resize {
     Double,
 }
 
-// Output y of a line of len elements.
+// Output y of a line of len elements, by kind.
 fn resize_element(
     src: &[u8],
     start: usize,
@@ -87,6 +87,7 @@ fn inner_to(len: usize, kind: Resize) -> usize
     }
 }
 
+// The outputs of a row, halved, whose samples lie inside, ..
 fn halve_inner(src: &[u8], start: usize, len: usize, dst: &mut [u8], o: usize)
     requires { ⌜ (2 < len) × Room (now src) (now dst) start 4 len o (innerTo Resize.Halve len) ⌝ }
     ensures { λ _. ⌜ MadeInside halve (now (src .entry)) (now (dst .entry)) (now (dst .exit)) start len o (innerFrom Resize.Halve) (innerTo Resize.Halve len) ⌝ }
@@ -98,6 +99,7 @@ fn halve_inner(src: &[u8], start: usize, len: usize, dst: &mut [u8], o: usize)
     }
 }
 
+// .. and those of a row, doubled: two to a pixel.
 fn double_inner(src: &[u8], start: usize, len: usize, dst: &mut [u8], o: usize)
     requires { ⌜ (2 < len) × Room (now src) (now dst) start 4 len o (innerTo Resize.Double len) ⌝ }
     ensures { λ _. ⌜ MadeInside double (now (src .entry)) (now (dst .entry)) (now (dst .exit)) start len o (innerFrom Resize.Double) (innerTo Resize.Double len) ⌝ }
@@ -109,7 +111,7 @@ fn double_inner(src: &[u8], start: usize, len: usize, dst: &mut [u8], o: usize)
     }
 }
 
-// The outputs of a row whose samples lie inside.
+// The outputs of a row whose samples lie inside, by kind.
 fn resize_inner(src: &[u8], start: usize, len: usize, dst: &mut [u8], o: usize, kind: Resize)
     requires { ⌜ (2 < len) × Room (now src) (now dst) start 4 len o (innerTo kind len) ⌝ }
     ensures { λ _. ⌜ MadeInside (passOf kind) (now (src .entry)) (now (dst .entry)) (now (dst .exit)) start len o (innerFrom kind) (innerTo kind len) ⌝ }
@@ -180,11 +182,11 @@ pub fn resize_lines(
     requires { ⌜ Lines kind (now src) (now dst) lines len out stride ⌝ }
     ensures { λ _. ⌜ now (dst .exit) ≡ passed (passOf kind mode) (now (src .entry)) lines len out stride ⌝ }
 {
-    let long = len * stride;
-    let short = out * stride;
+    let read = len * stride;
+    let made = out * stride;
     let mut y: usize = 0;
     while y < lines {
-        resize_line(src, y * long, stride, len, dst, y * short, out, mode, kind);
+        resize_line(src, y * read, stride, len, dst, y * made, out, mode, kind);
         y += 1;
     }
 }

@@ -5,7 +5,7 @@ use mathlib.Core.List.{List, [], _∷_, map}
 use Prim.Native.Nat.{ℕ}
 use lib.IntN.{ℤ, pos, negsuc}
 use lib.ListN.{getD}
-use lib.Ieee.{Float, fin, isNan, lt, neg, add, mul, ofInt}
+use lib.Ieee.{Float, fin, isNan, lt, neg, add, sub, mul, div, ofInt}
 use Rattle.picture.specs.Planes.{Line, chan, painted, cleared}
 use Rattle.picture.specs.Build.{build}
 use Rattle.picture.specs.Sizes.{maxSide}
@@ -27,6 +27,7 @@ use Rattle.gaussian_blur.specs.Outcome.{Lent, blurredOrKept, outcome}
 use Rattle.shift.specs.Shift.{moved, shifted, shiftedPicture}
 use Rattle.shift.specs.Outcome.{wrongOffsets}
 use Rattle.shift.specs.Outcome as shift
+use Rattle.composite.specs.Channels.{norm, normByte, over}
 
 -- a line given by its values
 abbrev row : List ℕ → Line
@@ -99,9 +100,11 @@ table =
     -- H: offset 0.5 moves 1, -0.5 moves -1
     ∷ (steps (wholeOffset half) gives (1 ∷ 0 ∷ []))
     ∷ (steps (wholeOffset (neg half)) gives (0 ∷ 1 ∷ []))
+    -- I: r 0, a 128 over r 100, a 255: r and a
+    ∷ ((over 0 100 128 ∷ over 128 255 128 ∷ []) gives (50 ∷ 255 ∷ []))
     ∷ []
 
 -- every case gives what document 01 says
 pub marked : map (λ (c : Case). c .given) table ≡ map (λ (c : Case). c .says) table
-unfolding placeOf place sample halve double convolve blur build chan painted cleared blurred blurredOrKept outcome settled firstOf zeroOrAbove wrongSides maxSide wrongLength tooShort wrongTaps maxTaps tooDeep maxDecimations wrongEdge modeOf finite outsideUnit anyOutside taps tap toByte roundHalfUp wholeOffset isNan lt add mul ofInt neg moved shifted shiftedPicture wrongOffsets shift.outcome
+unfolding placeOf place sample halve double convolve blur build chan painted cleared blurred blurredOrKept outcome settled firstOf zeroOrAbove wrongSides maxSide wrongLength tooShort wrongTaps maxTaps tooDeep maxDecimations wrongEdge modeOf finite outsideUnit anyOutside taps tap toByte roundHalfUp wholeOffset isNan lt add mul ofInt neg moved shifted shiftedPicture wrongOffsets shift.outcome norm normByte over sub div
 marked = refl

@@ -11,13 +11,13 @@ use Rattle.decimate.proofs.resize_lines.Statement.{statement}
 use Rattle.decimate.proofs.resize_lines.Tie as tie
 
 abbrev Inv-loop : tie.InvT-loop
-Inv-loop src dst₀ lines len out stride mode kind long short y₀ dst y =
+Inv-loop src dst₀ lines len out stride mode kind read made y₀ dst y =
     (y ≤ lines)
     × (length dst ≡ length dst₀)
     × Part dst₀ dst 0 0 y (out * stride) (λ z k. lineOf (passOf kind mode) src (z * (len * stride)) len stride k)
 
 abbrev μ-loop : tie.MeasureT-loop
-μ-loop src dst₀ lines len out stride mode kind long short y₀ dst y = lines - y
+μ-loop src dst₀ lines len out stride mode kind read made y₀ dst y = lines - y
 
 -- line y of those before `lines` lies within src, and what it becomes within dst
 room : (c : tie.After-slice-known Inv-loop μ-loop) (y : ℕ) →
@@ -29,11 +29,11 @@ room c y l =
     let a = st .args in
     omega (arith, within 0 (a .len * a .stride) y (a .lines) l, within 0 (a .out * a .stride) y (a .lines) l, st .pre .src-length, st .pre .dst-length)
 
-mul-long : tie.Need-mul-long Inv-loop μ-loop
-mul-long c = omega (arith, room c 0 (c .before .before .pre .some))
+mul-read : tie.Need-mul-read Inv-loop μ-loop
+mul-read c = omega (arith, room c 0 (c .before .before .pre .some))
 
-mul-short : tie.Need-mul-short Inv-loop μ-loop
-mul-short c = omega (arith, room c 0 (c .before .before .pre .some))
+mul-made : tie.Need-mul-made Inv-loop μ-loop
+mul-made c = omega (arith, room c 0 (c .before .before .pre .some))
 
 loop-holds : tie.Need-loop-holds Inv-loop μ-loop
 loop-holds c = (omega arith, refl, part-none)
@@ -80,8 +80,8 @@ resize-lines-spec =
     (tie.spec
     Inv-loop
     μ-loop
-    mul-long
-    mul-short
+    mul-read
+    mul-made
     loop-holds
     mul-resize-line
     mul-resize-line-2

@@ -48,18 +48,18 @@ loop-holds c =
     (s .pre .1 .some, refl, (λ i h. c .before .before .first-tap .ensures .inside i (omega arith) h ∙ sum-first (now (a .line)) (a .a) (a .step) (now (a .weights)) i))
 
 mul-b : tie.Need-mul-b Inv-loop μ-loop
-mul-b c = let l = c .before in omega (arith, two l (c .loop-test .taken), fits l)
+mul-b c = let l = c .before in omega (arith, two l (omega arith), fits l)
 
 add-b : tie.Need-add-b Inv-loop μ-loop
-add-b c = let l = c .before in omega (arith, two l (c .loop-test .taken), fits l)
+add-b c = let l = c .before in omega (arith, two l (omega arith), fits l)
 
 add-add-two : tie.Need-add-add-two Inv-loop μ-loop
-add-add-two c = let l = c .before .before .before in omega (arith, two l (c .before .before .loop-test .taken), fits l)
+add-add-two c = let l = c .before .before .before in omega (arith, two l (omega (arith, c .before .before .loop-test .taken)), fits l)
 
 add-two-requires : tie.Need-add-two-requires Inv-loop μ-loop
 add-two-requires c κs =
     let l = c .before .before .before .before in
-    omega (arith, two l (c .before .before .before .loop-test .taken), kept l, start l .pre .0)
+    omega (arith, two l (omega (arith, c .before .before .before .loop-test .taken)), kept l, start l .pre .0)
 
 loop-again : tie.Need-loop-again Inv-loop μ-loop
 loop-again c =

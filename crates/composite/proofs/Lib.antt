@@ -1,0 +1,6 @@
+-- Laws of the shadow's arithmetic and of its pixels.
+pub mod Within
+pub mod Units
+pub mod Whole
+pub mod Painting
+pub mod Table

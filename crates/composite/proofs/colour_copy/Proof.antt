@@ -1,0 +1,40 @@
+-- `colour_copy` meets its contract: the table's pixels are the shadow's, one for each alpha.
+use mathlib.Core.Path.{_∙_}
+use borrow.Author.Needs.{needs}
+use Rattle.composite.proofs.Table.{looked-is}
+use Rattle.composite.proofs.colour_copy.Statement.{statement}
+use Rattle.composite.proofs.colour_copy.Tie as tie
+
+slice-aggregate-shadow-table : tie.Need-slice-aggregate-shadow-table
+slice-aggregate-shadow-table c = search needs
+
+shadow-table-requires : tie.Need-shadow-table-requires
+shadow-table-requires c κs = search needs
+
+slice-aggregate-look-up : tie.Need-slice-aggregate-look-up
+slice-aggregate-look-up c = search needs
+
+look-up-requires : tie.Need-look-up-requires
+look-up-requires c κs = search needs
+
+same-length : tie.Need-same-length
+same-length c = search needs
+
+returns : tie.Need-returns
+returns c =
+    let look = c .before .before in
+    let made = look .before .before .before .before in
+    let known = made .before .before in
+    let s = known .before .args in
+    look .look-up .ensures ∙ looked-is (s .colour) (s .s .w) (s .s .h) (s .copy .now) _ (λ j. known .slice-known .given j .fits) (made .shadow-table .ensures)
+
+pub colour-copy-spec : {M : Type 1} → statement M
+colour-copy-spec =
+    tie.close
+    (tie.spec
+    slice-aggregate-shadow-table
+    shadow-table-requires
+    slice-aggregate-look-up
+    look-up-requires
+    same-length
+    returns)

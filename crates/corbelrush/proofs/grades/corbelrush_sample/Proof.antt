@@ -1,0 +1,23 @@
+-- The pixel that the view has there, packed.
+use mathlib.Core.Path.{_∙_, ap}
+use mir.Syntax.{w32}
+use mir.ValLaws.{toZ-ofZ}
+use Rattle.corbelrush.specs.Words.{packed}
+use borrow.Author.Needs.{needs}
+use Rattle.corbelrush.proofs.grades.corbelrush_sample.Statement.{statement}
+use Rattle.corbelrush.proofs.grades.corbelrush_sample.Tie as tie
+
+sample-at-requires : tie.Need-sample-at-requires
+sample-at-requires c κs = search needs
+
+pack-requires : tie.Need-pack-requires
+pack-requires c κs = search needs
+
+returns : tie.Need-returns
+returns c =
+    let st = c .before .before .before in
+    let a = st .args in
+    c .pack .ensures ∙ ap packed (rw (toZ-ofZ w32 (a .x) (st .fits .x), toZ-ofZ w32 (a .y) (st .fits .y)) at (c .before .sample-at .ensures))
+
+pub corbelrush-sample-spec : {M : Type 1} → statement M
+corbelrush-sample-spec = tie.close (tie.spec sample-at-requires pack-requires returns)

@@ -1,0 +1,2 @@
+-- How C gets what the entries answer.
+pub mod Words

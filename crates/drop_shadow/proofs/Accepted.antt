@@ -1,0 +1,65 @@
+-- Laws of an accepted call: what no refusal says, and a work buffer whose first part was lent and then cleared.
+use mathlib.Core.Path.{_≡_, _∙_, sym, ap}
+use mathlib.Core.Bool.{false}
+use mathlib.Core.List.{List, _++_}
+use Prim.Native.Nat.{ℕ, _≤_}
+use native.Mathlib.Omega.{arith}
+use lib.Dec.{lit<}
+use lib.Ieee.{Float}
+use lib.ListN.{length, take, drop}
+use lib.Seq.{length-front}
+use borrow.Author.Tests.{ltb-false, eqb-true, not-false}
+use Rattle.picture.specs.Planes.{cleared}
+use Rattle.picture.specs.Sizes.{fullSize}
+use Rattle.picture.specs.Refusal.{firstOf, wrongSides, wrongLength, tooShort}
+use Rattle.picture.proofs.Sizes.{full-sized}
+use Rattle.picture.proofs.Passed.{passed}
+use Rattle.picture.proofs.Tests.{neither}
+use Rattle.binary32.specs.Ranges.{anyOutside}
+use Rattle.composite.specs.Shadow.{InUnit}
+use Rattle.gaussian_blur.proofs.Outcomes.{cleared-part}
+use Rattle.drop_shadow.specs.Shadowed.{colourOf}
+use Rattle.drop_shadow.specs.Needs.{Accepted}
+use Rattle.drop_shadow.specs.Outcome.{eitherShort, notFinite, wrongColour, shadowChecks}
+use Rattle.drop_shadow.specs.declared.Recipe.{Recipe}
+
+-- ---- a work buffer whose first k bytes are lent, come back as e, and are cleared
+pub comes-back : {k : ℕ} (work e : List ℕ) → k ≤ length work → length e ≡ length (take k work) → k ≤ length (e ++ drop k work)
+comes-back {k} work e fits kept = omega (arith, length-front work e k kept)
+
+pub cleared-whole : {k m : ℕ} {z : List ℕ} (work e : List ℕ) → k ≡ m → k ≤ length work → length e ≡ length (take k work) → z ≡ cleared k (e ++ drop k work) → z ≡ cleared m work
+cleared-whole {k} work e is fits kept clear = clear ∙ cleared-part k work e fits kept ∙ ap (λ (n : ℕ). cleared n work) is
+
+-- ---- no refusal
+-- a colour that check 8 lets through
+in-unit : (recipe : Recipe) → wrongColour recipe ≡ false → InUnit (colourOf recipe)
+unfolding wrongColour anyOutside
+in-unit recipe e =
+    let r = neither _ _ e in
+    let g = neither _ _ (r .1) in
+    let b = neither _ _ (g .1) in
+    record { red = r .0; green = g .0; blue = b .0; alpha = neither _ _ (b .1) .0 }
+
+-- the sizes, the kernel and the recipe are as the work needs them
+pub accepted : (p : List ℕ) (w h : ℕ) (s c : List ℕ) (weights : List Float) (n edge : ℕ) (recipe : Recipe) →
+    0 ≡ firstOf (shadowChecks (length p) w h (length s) (length c) weights n edge recipe) → (wrongSides w h ≡ false) × Accepted (fullSize w h) p s c weights recipe
+unfolding wrongLength tooShort eitherShort notFinite
+accepted p w h s c weights n edge recipe e =
+    let one = passed _ _ (lit< tt) e in
+    let two = passed _ _ (lit< tt) (one .1) in
+    let three = passed _ _ (lit< tt) (two .1) in
+    let four = passed _ _ (lit< tt) (three .1) in
+    let five = passed _ _ (lit< tt) (four .1) in
+    let six = passed _ _ (lit< tt) (five .1) in
+    let seven = passed _ _ (lit< tt) (six .1) in
+    let eight = passed _ _ (lit< tt) (seven .1) in
+    let room = neither _ _ (three .0) in (
+      one .0,
+      record {
+        sized = full-sized w h (one .0);
+        picture-is = eqb-true _ _ (not-false _ (two .0));
+        scratch-room = ltb-false _ _ (room .0);
+        copy-room = ltb-false _ _ (room .1);
+        given = record { count = four .0; range = five .0; offsets = neither _ _ (seven .0) .0; colour = in-unit recipe (eight .0) };
+      },
+    )

@@ -1,0 +1,2 @@
+-- Laws of what an accepted call needs and leaves.
+pub mod Accepted

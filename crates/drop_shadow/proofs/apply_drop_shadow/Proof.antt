@@ -1,0 +1,59 @@
+-- The copy is the picture, cast and then coloured, and what is written is the definition's.
+use mathlib.Core.Path.{_∙_}
+use borrow.Author.Needs.{needs}
+use Rattle.drop_shadow.specs.Shadowed.{shadowed}
+use Rattle.drop_shadow.proofs.apply_drop_shadow.Statement.{statement}
+use Rattle.drop_shadow.proofs.apply_drop_shadow.Tie as tie
+
+copy-bytes-requires : tie.Need-copy-bytes-requires
+copy-bytes-requires c κs = search needs
+
+cast-shadow-requires : tie.Need-cast-shadow-requires
+cast-shadow-requires c κs = search needs
+
+level-zero-requires : tie.Need-level-zero-requires
+level-zero-requires c κs = search needs
+
+colour-of-requires : tie.Need-colour-of-requires
+colour-of-requires c κs = search needs
+
+write-colored-shadow-requires : tie.Need-write-colored-shadow-requires
+write-colored-shadow-requires c κs =
+    let made = c .before .before in
+    let cast = made .before .before .before .before .before .before in
+    let copied = cast .before .before .before .before .before in
+    let needs = copied .before .before .before .before .before .before .before .pre in
+    rw (made .before .level-zero .ensures, made .colour-of .ensures)
+    (needs .0 .sized, (needs .0 .given .colour, (cast .cast-shadow .kept .0 ∙ copied .copy-bytes .kept .0 ∙ needs .0 .copy-is, needs .1)))
+
+same-length : tie.Need-same-length
+same-length c = search needs
+
+same-length-2 : tie.Need-same-length-2
+same-length-2 c = search needs
+
+same-length-3 : tie.Need-same-length-3
+same-length-3 c = search needs
+
+returns : tie.Need-returns
+unfolding shadowed
+returns c =
+    let write = c .before .before .before .before in
+    let made = write .before .before .before in
+    let cast = made .before .before .before .before .before .before in
+    let copied = cast .before .before .before .before .before in
+    rw (write .write-colored-shadow .ensures, made .colour-of .ensures, made .before .level-zero .ensures, cast .cast-shadow .ensures, copied .copy-bytes .ensures)
+
+pub apply-drop-shadow-spec : {M : Type 1} → statement M
+apply-drop-shadow-spec =
+    tie.close
+    (tie.spec
+    copy-bytes-requires
+    cast-shadow-requires
+    level-zero-requires
+    colour-of-requires
+    write-colored-shadow-requires
+    same-length
+    same-length-2
+    same-length-3
+    returns)

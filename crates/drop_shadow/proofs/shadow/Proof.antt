@@ -1,0 +1,72 @@
+-- Refused, or the work of an accepted call.
+use mathlib.Core.Path.{_≡_, sym, _∙_}
+use mathlib.Core.Bool.{false}
+use borrow.Author.Needs.{needs}
+use Rattle.picture.specs.Sizes.{fullSize}
+use Rattle.picture.specs.Refusal.{wrongSides}
+use Rattle.picture.proofs.Answers.{refused, done}
+use Rattle.drop_shadow.specs.Needs.{Accepted}
+use Rattle.drop_shadow.specs.Outcome.{outcome}
+use Rattle.drop_shadow.proofs.Accepted.{accepted}
+use Rattle.drop_shadow.proofs.shadow.Statement.{statement}
+use Rattle.drop_shadow.proofs.shadow.Tie as tie
+
+shadow-refusal-requires : tie.Need-shadow-refusal-requires
+shadow-refusal-requires c κs = search needs
+
+returns : tie.Need-returns
+unfolding outcome
+returns c =
+    let f = c .if1 .taken in
+    rw (c .before .shadow-refusal .ensures) (refused _ _ _ (λ e. f (c .before .shadow-refusal .ensures ∙ e)))
+
+-- nothing was refused
+fine : (c : tie.Else1) →
+    let a = c .before .before .before .before .before .before .args in
+    (wrongSides (a .w) (a .h) ≡ false) × Accepted (fullSize (a .w) (a .h)) (a .picture .now) (a .scratch .now) (a .copy .now) (a .weights .now) (a .recipe)
+fine c =
+    let a = c .before .before .before .before .before .before .args in
+    accepted (a .picture .now) (a .w) (a .h) (a .scratch .now) (a .copy .now) (a .weights .now) (a .n) (a .edge) (a .recipe) (sym (c .if1 .left) ∙ c .before .shadow-refusal .ensures)
+
+full-size-requires : tie.Need-full-size-requires
+full-size-requires c κs = fine c .0
+
+edge-mode-requires : tie.Need-edge-mode-requires
+edge-mode-requires c κs = search needs
+
+shadow-accepted-requires : tie.Need-shadow-accepted-requires
+shadow-accepted-requires c κs =
+    let size = c .before .before .before .before in
+    rw (size .full-size .ensures) (fine (size .before) .1)
+
+same-length : tie.Need-same-length
+same-length c = search needs
+
+same-length-2 : tie.Need-same-length-2
+same-length-2 c = search needs
+
+same-length-3 : tie.Need-same-length-3
+same-length-3 c = search needs
+
+returns-2 : tie.Need-returns-2
+unfolding outcome
+returns-2 c =
+    let v = c .before .before .before .before .before .before in
+    let mode = v .before .before .before .before in
+    let e = mode .before .before in
+    let zero = sym (e .before .shadow-refusal .ensures) ∙ e .if1 .left in
+    rw (v .shadow-accepted .ensures, mode .before .full-size .ensures, mode .edge-mode .ensures) (done _ _ _ zero)
+
+pub shadow-spec : {M : Type 1} → statement M
+shadow-spec =
+    tie.close
+    (tie.spec
+    shadow-refusal-requires
+    returns
+    full-size-requires
+    edge-mode-requires
+    shadow-accepted-requires
+    same-length
+    same-length-2
+    same-length-3
+    returns-2)

@@ -1,0 +1,212 @@
+// The drop shadow: the recipe, apply_drop_shadow, and the entry `shadow`.
+use composite::Colour;
+use picture::EdgeMode;
+use picture::FullSize;
+ghost use mathlib.Core.Path.{_≡_};
+ghost use lib.ListN.{length};
+ghost use Rattle.picture.specs.Planes.{bytesOf, cleared};
+ghost use Rattle.picture.specs.Sizes.{levelZero, levelBytes};
+ghost use Rattle.picture.specs.Refusal.{firstOf};
+ghost use Rattle.picture.specs.Answer.{answered};
+ghost use Rattle.drop_shadow.specs.Shadowed.{colourOf, cast, shadowed};
+ghost use Rattle.drop_shadow.specs.Needs.{Ready, Accepted};
+ghost use Rattle.drop_shadow.specs.Outcome.{eitherShort, notFinite, wrongColour, shadowChecks, lent, outcome};
+
+// How a shadow is cast: its offsets, its blur's strength and its colour.
+pub struct Recipe {
+    pub dx: f32,
+    pub dy: f32,
+    pub strength: f32,
+    pub red: f32,
+    pub green: f32,
+    pub blue: f32,
+    pub alpha: f32,
+}
+
+fn colour_of(recipe: Recipe) -> Colour
+    ensures { λ r. ⌜ r ≡ colourOf recipe ⌝ }
+{
+    Colour {
+        red: recipe.red,
+        green: recipe.green,
+        blue: recipe.blue,
+        alpha: recipe.alpha,
+    }
+}
+
+// Shifts the copy, and blurs it when the strength is above zero.
+fn cast_shadow(
+    copy: &mut [u8],
+    size: FullSize,
+    scratch: &mut [u8],
+    weights: &[f32],
+    n: u32,
+    mode: EdgeMode,
+    recipe: Recipe,
+)
+    requires { ⌜ Ready size (now scratch) (now copy) (now weights) recipe ⌝ }
+    ensures { λ _. ⌜ now (copy .exit) ≡ cast mode (now (weights .entry)) n recipe (size .w) (size .h) (now (copy .entry)) ⌝ }
+{
+    shift::offset_pixels(copy, size, recipe.dx, recipe.dy);
+    gaussian_blur::blur_or_keep(copy, scratch, size, n, weights, mode, recipe.strength);
+}
+
+// Copies the picture, casts the copy as a shadow, colours it, and lays the picture over it.
+pub fn apply_drop_shadow(
+    picture: &mut [u8],
+    size: FullSize,
+    scratch: &mut [u8],
+    copy: &mut [u8],
+    weights: &[f32],
+    n: u32,
+    mode: EdgeMode,
+    recipe: Recipe,
+    composite: bool,
+)
+    requires { ⌜ Ready size (now scratch) (now copy) (now weights) recipe ⌝ ∗ ⌜ length (now picture) ≡ levelBytes (levelZero size) ⌝ }
+    ensures { λ _. ⌜ now (picture .exit) ≡ shadowed mode (now (weights .entry)) n recipe composite (size .w) (size .h) (now (picture .entry)) ⌝ }
+{
+    composite::copy_bytes(copy, picture);
+    cast_shadow(copy, size, scratch, weights, n, mode, recipe);
+    let s = size.level_zero();
+    let colour = colour_of(recipe);
+    composite::write_colored_shadow(copy, picture, s, colour, composite);
+}
+
+// Refusal 3's condition, of both work buffers.
+fn either_short(scratch: usize, copy: usize, w: u32, h: u32) -> bool
+    ensures { λ r. ⌜ r ≡ eitherShort scratch copy w h ⌝ }
+{
+    if picture::too_short(scratch, w, h) {
+        return true;
+    }
+    picture::too_short(copy, w, h)
+}
+
+// Refusal 7's condition.
+fn not_finite(recipe: Recipe) -> bool
+    ensures { λ r. ⌜ r ≡ notFinite recipe ⌝ }
+{
+    if shift::wrong_offsets(recipe.dx, recipe.dy) {
+        return true;
+    }
+    !binary32::is_finite(recipe.strength)
+}
+
+// Refusal 8's condition.
+fn wrong_colour(recipe: Recipe) -> bool
+    ensures { λ r. ⌜ r ≡ wrongColour recipe ⌝ }
+{
+    let components = [recipe.red, recipe.green, recipe.blue, recipe.alpha];
+    binary32::any_outside(&components)
+}
+
+// The first of refusals 1 to 9 that fits, 0 where none does; of the buffers' lengths.
+pub fn shadow_refusal(
+    picture: usize,
+    w: u32,
+    h: u32,
+    scratch: usize,
+    copy: usize,
+    weights: &[f32],
+    n: u32,
+    edge: u32,
+    recipe: Recipe,
+) -> u32
+    ensures { λ r. ⌜ r ≡ firstOf (shadowChecks picture w h scratch copy (now (weights .entry)) n edge recipe) ⌝ }
+{
+    let nine = picture::first(picture::WRONG_EDGE, picture::wrong_edge(edge), 0);
+    let eight = picture::first(picture::WRONG_COLOUR, wrong_colour(recipe), nine);
+    let seven = picture::first(picture::NOT_FINITE, not_finite(recipe), eight);
+    let six = picture::first(picture::TOO_DEEP, picture::too_deep(n), seven);
+    let five = picture::first(picture::WRONG_WEIGHT, binary32::any_outside(weights), six);
+    let four = picture::first(
+        picture::WRONG_TAPS,
+        picture::wrong_taps(weights.len()),
+        five,
+    );
+    let three = picture::first(picture::TOO_SHORT, either_short(scratch, copy, w, h), four);
+    let two = picture::first(
+        picture::WRONG_LENGTH,
+        picture::wrong_length(picture, w, h),
+        three,
+    );
+    picture::first(picture::WRONG_SIDES, picture::wrong_sides(w, h), two)
+}
+
+// An accepted call: the picture with its shadow, and the work buffers zero where they were used.
+fn shadow_accepted(
+    picture: &mut [u8],
+    size: FullSize,
+    scratch: &mut [u8],
+    copy: &mut [u8],
+    weights: &[f32],
+    n: u32,
+    mode: EdgeMode,
+    recipe: Recipe,
+    composite: bool,
+)
+    requires { ⌜ Accepted size (now picture) (now scratch) (now copy) (now weights) recipe ⌝ }
+    ensures { λ _. ⌜ lent (now (picture .exit)) (now (scratch .exit)) (now (copy .exit)) ≡ lent (shadowed mode (now (weights .entry)) n recipe composite (size .w) (size .h) (now (picture .entry))) (cleared (bytesOf (size .w) (size .h)) (now (scratch .entry))) (cleared (bytesOf (size .w) (size .h)) (now (copy .entry))) ⌝ }
+{
+    let k = size.level_zero().bytes();
+    apply_drop_shadow(
+        picture,
+        size,
+        &mut scratch[..k],
+        &mut copy[..k],
+        weights,
+        n,
+        mode,
+        recipe,
+        composite,
+    );
+    picture::clear(scratch, k);
+    picture::clear(copy, k);
+}
+
+// Casts the shadow of a picture of w by h pixels where nothing is refused, and lays the picture over
+// it where `composite` says so.
+pub fn shadow(
+    picture: &mut [u8],
+    w: u32,
+    h: u32,
+    scratch: &mut [u8],
+    copy: &mut [u8],
+    weights: &[f32],
+    n: u32,
+    edge: u32,
+    recipe: Recipe,
+    composite: bool,
+) -> u32
+    ensures { λ r. ⌜ answered r (lent (now (picture .exit)) (now (scratch .exit)) (now (copy .exit))) ≡ outcome (now (picture .entry)) w h (now (scratch .entry)) (now (copy .entry)) (now (weights .entry)) n edge recipe composite ⌝ }
+{
+    let r = shadow_refusal(
+        picture.len(),
+        w,
+        h,
+        scratch.len(),
+        copy.len(),
+        weights,
+        n,
+        edge,
+        recipe,
+    );
+    if r != 0 {
+        return r;
+    }
+    let size = picture::full_size(w, h);
+    let mode = picture::edge_mode(edge);
+    shadow_accepted(
+        picture,
+        size,
+        scratch,
+        copy,
+        weights,
+        n,
+        mode,
+        recipe,
+        composite,
+    );
+    0
+}

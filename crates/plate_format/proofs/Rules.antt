@@ -1,0 +1,87 @@
+-- Laws of the plate rules: what each says of a plate.
+use mathlib.Core.Path.{_≡_, refl, _∙_, sym}
+use mathlib.Core.Bool.{true, false, and-true}
+use mathlib.Core.List.{List}
+use Prim.Native.Nat.{ℕ, _+_, _<_, _≤_}
+use native.Mathlib.Decide.{le-ind}
+use native.Mathlib.Omega.{arith}
+use lib.ListN.{length}
+use borrow.Author.Tests.{leb-true, le-leb, eqb-true, not-true, not-false}
+use Rattle.picture.specs.Planes.{bytesOf}
+use Rattle.picture.specs.Refusal.{wrongSides, wrongLength}
+use Rattle.plate_format.specs.Format.{version, count, known, maxCount, largestSide, largestWhole, entryAt, entryOf, bodyOffset, wrongSidesOf, obeys, entryObeys, filled, isPlate}
+use Rattle.plate_format.specs.Needs.{Tabled}
+use Rattle.plate_format.specs.declared.Entry.{Entry}
+use Rattle.plate_format.proofs.Tests.{both, all-at}
+
+-- the sides' limits are refusal 1's
+pub sides-are : (v : ℕ) (e : Entry) → wrongSidesOf v e ≡ wrongSides (e .width) (e .height)
+unfolding wrongSidesOf largestSide wrongSides
+sides-are v e = refl
+
+-- a body starts where an earlier one does, at the earliest
+pub offset-up : (file : List ℕ) {i n : ℕ} → i ≤ n → bodyOffset file i ≤ bodyOffset file n
+unfolding bodyOffset
+offset-up file {i} {n} l = le-ind (λ k. bodyOffset file i ≤ bodyOffset file k) (omega arith) (λ k _ h. omega arith) n l
+
+module _ (file : List ℕ) where
+  pub record Filled : Type 0 where
+    pub obeyed : (i : ℕ) → i < count file → entryObeys file i ≡ true
+    pub exact : length file ≡ bodyOffset file (count file)
+
+  pub filled-is : filled file ≡ true → Filled
+  unfolding filled
+  filled-is h =
+      let b = both _ _ h in
+      record { obeyed = λ i l. all-at (entryObeys file) (count file) i l (b .0); exact = eqb-true _ _ (b .1) }
+
+  -- what a plate obeys
+  pub record Rules : Type 0 where
+    pub version-is : known (version file) ≡ true
+    pub few : count file ≤ maxCount
+    pub bodies : Filled
+    pub whole : length file ≤ largestWhole (version file)
+
+  pub rules : isPlate file ≡ true → Rules
+  unfolding isPlate
+  rules h =
+      let w = both _ _ h in
+      let f = both _ _ (w .0) in
+      let n = both _ _ (f .0) in
+      record { version-is = n .0; few = leb-true _ _ (n .1); bodies = filled-is (f .1); whole = leb-true _ _ (w .1) }
+
+  -- the table of a plate is there
+  pub table-inside : Rules → entryAt file (count file) ≤ length file
+  unfolding bodyOffset
+  table-inside r = omega (arith, r .bodies .exact, offset-up file {i = 0} {n = count file} (omega arith))
+
+  -- where the other rules are obeyed, the entries and the bodies decide
+  pub decides : known (version file) ≡ true → count file ≤ maxCount → length file ≤ largestWhole (version file) → filled file ≡ isPlate file
+  unfolding isPlate
+  decides k f w = rw (k, le-leb (count file) maxCount f, le-leb (length file) (largestWhole (version file)) w, and-true (filled file))
+
+  -- what an entry of a plate obeys
+  pub record Obeyed (i : ℕ) : Type 0 where
+    pub sides : wrongSides (entryOf file i .width) (entryOf file i .height) ≡ false
+    pub long : entryOf file i .length ≡ bytesOf (entryOf file i .width) (entryOf file i .height)
+    pub starts : entryOf file i .offset ≡ bodyOffset file i
+    pub ends : bodyOffset file i + entryOf file i .length ≤ length file
+
+  module _ (plate : isPlate file ≡ true) where
+    pub plate-tabled : Tabled file
+    unfolding maxCount
+    plate-tabled = let r = rules plate in record { few = omega (arith, r .few); inside = table-inside r }
+
+    pub plate-entry : (i : ℕ) → i < count file → Obeyed i
+    unfolding obeys wrongLength bodyOffset
+    plate-entry i l =
+        let r = rules plate in
+        let e = entryOf file i in
+        let o = both _ _ (r .bodies .obeyed i l) in
+        let s = both _ _ (o .0) in
+        record {
+          sides = sym (sides-are (version file) e) ∙ not-true _ (s .0);
+          long = eqb-true _ _ (not-false _ (not-true _ (s .1)));
+          starts = eqb-true _ _ (o .1);
+          ends = omega (arith, r .bodies .exact, offset-up file l);
+        }

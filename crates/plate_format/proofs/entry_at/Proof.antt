@@ -1,0 +1,29 @@
+-- No sum wraps: an index of 16 bits times an entry's size has room.
+use Prim.Native.Nat.{_*_, _≤_}
+use native.Mathlib.Omega.{arith}
+use borrow.Author.Needs.{needs}
+use Rattle.plate_format.proofs.Table.{place-fits}
+use Rattle.plate_format.proofs.entry_at.Statement.{statement}
+use Rattle.plate_format.proofs.entry_at.Tie as tie
+
+u16-at-requires : tie.Need-u16-at-requires
+u16-at-requires c κs = search needs
+
+entry-size-requires : tie.Need-entry-size-requires
+entry-size-requires c κs = search needs
+
+place : (c : tie.After-entry-size) → c .before .before .before .args .i * c .entry-size .result ≤ 4294967296
+place c = rw (c .entry-size .ensures) (place-fits (c .before .before .before .args .i) (c .before .u16-at .result) (c .before .before .before .pre .1))
+
+mul-result : tie.Need-mul-result
+mul-result c = omega (arith, place c)
+
+add-result : tie.Need-add-result
+add-result c = omega (arith, place c)
+
+returns : tie.Need-returns
+returns c = rw (c .entry-size .ensures, c .before .u16-at .ensures)
+
+pub entry-at-spec : {M : Type 1} → statement M
+entry-at-spec =
+    tie.close (tie.spec u16-at-requires entry-size-requires mul-result add-result returns)

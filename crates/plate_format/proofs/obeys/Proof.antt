@@ -1,0 +1,61 @@
+-- Each way out is one part of the definition's "and".
+use mathlib.Core.Path.{_≡_, _∙_, sym}
+use mathlib.Core.Bool.{false}
+use borrow.Author.Needs.{needs}
+use Rattle.plate_format.specs.Format.{wrongSidesOf, obeys}
+use Rattle.plate_format.proofs.Rules.{sides-are}
+use Rattle.plate_format.proofs.obeys.Statement.{statement}
+use Rattle.plate_format.proofs.obeys.Tie as tie
+
+cast-w : tie.Need-cast-w
+cast-w c = search needs
+
+cast-h : tie.Need-cast-h
+cast-h c = search needs
+
+wrong-sides-requires : tie.Need-wrong-sides-requires
+wrong-sides-requires c κs = search needs
+
+returns : tie.Need-returns
+unfolding obeys
+returns c =
+    let a = c .before .before .before .before .args in
+    rw (sides-are (a .v) (a .e) ∙ sym (c .before .wrong-sides .ensures) ∙ c .if1 .taken)
+
+sides : (c : tie.Else1) → let a = c .before .before .before .before .args in wrongSidesOf (a .v) (a .e) ≡ false
+sides c =
+    let a = c .before .before .before .before .args in
+    sides-are (a .v) (a .e) ∙ sym (c .before .wrong-sides .ensures) ∙ c .if1 .left
+
+cast-wrong-length : tie.Need-cast-wrong-length
+cast-wrong-length c = search needs
+
+wrong-length-requires : tie.Need-wrong-length-requires
+wrong-length-requires c κs = search needs
+
+returns-2 : tie.Need-returns-2
+unfolding obeys
+returns-2 c = rw (sides (c .before .before .before), sym (c .before .wrong-length .ensures) ∙ c .if2 .taken)
+
+cast-result : tie.Need-cast-result
+cast-result c = search needs
+
+returns-3 : tie.Need-returns-3
+unfolding obeys
+returns-3 c =
+    let l = c .before in
+    rw (sides (l .before .before .before), sym (l .before .wrong-length .ensures) ∙ l .if2 .left)
+
+pub obeys-spec : {M : Type 1} → statement M
+obeys-spec =
+    tie.close
+    (tie.spec
+    cast-w
+    cast-h
+    wrong-sides-requires
+    returns
+    cast-wrong-length
+    wrong-length-requires
+    returns-2
+    cast-result
+    returns-3)

@@ -1,0 +1,153 @@
+// The plate file: its numbers, its table, and whether some bytes are a plate.
+ghost use mathlib.Core.Path.{_≡_};
+ghost use Prim.Native.Nat.{_+_, _<_, _≤_};
+ghost use lib.ListN.{length};
+ghost use Rattle.plate_format.specs.Format.{u16At, u32At, count, known, entrySize, largestWhole, entryAt, entryOf, bodyOffset, obeys, filled, isPlate};
+ghost use Rattle.plate_format.specs.Needs.{Tabled};
+
+// The version and the count stand in the first bytes, and the table after them.
+const HEADER: usize = 4;
+
+// The most pictures of a plate.
+const MAX_COUNT: usize = 64;
+
+// One entry of the table, as the file has it.
+pub struct Entry {
+    pub width: u16,
+    pub height: u16,
+    pub offset: u32,
+    pub length: u32,
+}
+
+// A number of two bytes, little-endian.
+fn u16_at(file: &[u8], at: usize) -> u16
+    requires { ⌜ at + 1 < length (now file) ⌝ }
+    ensures { λ r. ⌜ r ≡ u16At (now (file .entry)) at ⌝ }
+{
+    file[at] as u16 + 256 * file[at + 1] as u16
+}
+
+// A number of four bytes, little-endian.
+fn u32_at(file: &[u8], at: usize) -> u32
+    requires { ⌜ at + 3 < length (now file) ⌝ }
+    ensures { λ r. ⌜ r ≡ u32At (now (file .entry)) at ⌝ }
+{
+    u16_at(file, at) as u32 + 65536 * u16_at(file, at + 2) as u32
+}
+
+// How many pictures the plate says it has.
+pub fn count(file: &[u8]) -> usize
+    requires { ⌜ 4 ≤ length (now file) ⌝ }
+    ensures { λ r. ⌜ r ≡ count (now (file .entry)) ⌝ }
+{
+    u16_at(file, 2) as usize
+}
+
+// The versions there are.
+fn known(v: u16) -> bool
+    ensures { λ r. ⌜ r ≡ known v ⌝ }
+{
+    v == 1
+}
+
+// What a version fixes: how many bytes an entry has, and the most bytes of the whole.
+fn entry_size(v: u16) -> usize
+    ensures { λ r. ⌜ r ≡ entrySize v ⌝ }
+{
+    12
+}
+
+fn largest_whole(v: u16) -> usize
+    ensures { λ r. ⌜ r ≡ largestWhole v ⌝ }
+{
+    16384
+}
+
+// Where entry i of the table stands.
+fn entry_at(file: &[u8], i: usize) -> usize
+    requires { ⌜ (4 ≤ length (now file)) × (i < 65536) ⌝ }
+    ensures { λ r. ⌜ r ≡ entryAt (now (file .entry)) i ⌝ }
+{
+    HEADER + i * entry_size(u16_at(file, 0))
+}
+
+// Where the table ends and the first body starts.
+pub fn table_end(file: &[u8]) -> usize
+    requires { ⌜ Tabled (now file) ⌝ }
+    ensures { λ r. ⌜ r ≡ bodyOffset (now (file .entry)) 0 ⌝ }
+{
+    entry_at(file, count(file))
+}
+
+// Entry i of the table.
+pub fn read_entry(file: &[u8], i: usize) -> Entry
+    requires { ⌜ Tabled (now file) × (i < count (now file)) ⌝ }
+    ensures { λ r. ⌜ r ≡ entryOf (now (file .entry)) i ⌝ }
+{
+    let at = entry_at(file, i);
+    Entry {
+        width: u16_at(file, at),
+        height: u16_at(file, at + 2),
+        offset: u32_at(file, at + 4),
+        length: u32_at(file, at + 8),
+    }
+}
+
+// Whether an entry whose body starts here obeys the rules.
+fn obeys(v: u16, start: usize, e: Entry) -> bool
+    ensures { λ r. ⌜ r ≡ obeys v start e ⌝ }
+{
+    let w = e.width as u32;
+    let h = e.height as u32;
+    if picture::wrong_sides(w, h) {
+        return false;
+    }
+    if picture::wrong_length(e.length as usize, w, h) {
+        return false;
+    }
+    e.offset as usize == start
+}
+
+// Whether every entry obeys, and after the bodies there is nothing.
+fn filled(file: &[u8]) -> bool
+    requires { ⌜ Tabled (now file) ⌝ }
+    ensures { λ r. ⌜ r ≡ filled (now (file .entry)) ⌝ }
+{
+    let v = u16_at(file, 0);
+    let n = count(file);
+    let mut start = table_end(file);
+    let mut i = 0;
+    while i < n {
+        let e = read_entry(file, i);
+        if !obeys(v, start, e) {
+            return false;
+        }
+        start += e.length as usize;
+        i += 1;
+    }
+    file.len() == start
+}
+
+// Whether these bytes are a plate.
+pub fn is_plate(file: &[u8]) -> bool
+    ensures { λ r. ⌜ r ≡ isPlate (now (file .entry)) ⌝ }
+{
+    if file.len() < HEADER {
+        return false;
+    }
+    let v = u16_at(file, 0);
+    if !known(v) {
+        return false;
+    }
+    let n = count(file);
+    if MAX_COUNT < n {
+        return false;
+    }
+    if largest_whole(v) < file.len() {
+        return false;
+    }
+    if file.len() < entry_at(file, n) {
+        return false;
+    }
+    filled(file)
+}

@@ -1,0 +1,34 @@
+-- Too long an input is refused here, and else the job's own answer is the program's.
+use native.Mathlib.Omega.{arith}
+use borrow.Author.Needs.{needs}
+use borrow.Author.Tests.{lt-leb, le-leb}
+use Rattle.picture.specs.Answer.{settled}
+use Rattle.plate.specs.Job.{plateBlur}
+use Rattle.plate.proofs.Settle.{job-roomy}
+use Rattle.plate_job.specs.Program.{answerTo}
+use Rattle.plate_job.proofs.run.Statement.{statement}
+use Rattle.plate_job.proofs.run.Tie as tie
+
+returns : tie.Need-returns
+unfolding answerTo settled
+returns c = rw (lt-leb _ _ (c .if1 .taken))
+
+plate-job-requires : tie.Need-plate-job-requires
+plate-job-requires c κs = search needs
+
+same-length : tie.Need-same-length
+same-length c = search needs
+
+same-length-2 : tie.Need-same-length-2
+same-length-2 c = search needs
+
+returns-2 : tie.Need-returns-2
+unfolding answerTo
+returns-2 c =
+    let b = c .before .before .before .before in
+    let e = b .before .before .before in
+    let st = e .before .before .before in
+    rw (le-leb _ _ (e .if1 .left)) (job-roomy plateBlur (st .args .input .now) (st .args .scratch .now) (omega arith) (b .plate-job .ensures))
+
+pub run-spec : {M : Type 1} → statement M
+run-spec = tie.close (tie.spec returns plate-job-requires same-length same-length-2 returns-2)

@@ -1,0 +1,2 @@
+-- What the program makes of its input.
+pub mod Program
