@@ -1,8 +1,8 @@
 -- Values from 0 to 1: a byte over 255, and the products that are rounded to a byte again.
-use mathlib.Core.Path.{_≡_, refl, sym, ap, _∙_}
+use mathlib.Core.Path.{_≡_, refl, ap, _∙_}
 use mathlib.Core.Logic.{inl, inr}
 use mathlib.Core.Bool.{Bool, true, false, cond}
-use Prim.Native.Nat.{ℕ, _+_, _*_, _/_, _^_, _≤_, _<_}
+use Prim.Native.Nat.{ℕ, _+_, _*_, _/_, _^_, _≤_}
 use native.Mathlib.Nat.{zero-lt-suc, le-refl, le-trans, le-of-eq, mul-comm, mul-assoc, mul-mul-mul-comm, mul-pos, mul-le-mul}
 use native.Mathlib.Omega.{arith}
 use lib.Dec.{T, lit≤}

@@ -1,12 +1,12 @@
 -- `over` in whole numbers, for all bytes: the exact value (255 s + d (255 - a)) / 255 is never within 1 / 510 of a half, and the roundings move it by less.
-use mathlib.Core.Path.{_≡_, refl, sym, ap, _∙_}
-use Prim.Native.Nat.{ℕ, _+_, _-_, _*_, _/_, _≤_, _<_, min}
+use mathlib.Core.Path.{_≡_, refl, ap}
+use Prim.Native.Nat.{ℕ, _+_, _-_, _*_, _/_, _≤_, min}
 use native.Mathlib.Nat.{zero-lt-suc, add-mul, mul-add, mul-mul-mul-comm, mul-le-mul}
 use native.Mathlib.Omega.{arith}
-use lib.Dec.{T, lit≤}
+use lib.Dec.{lit≤}
 use lib.Ieee.{Float, binary32, add, sub, mul}
 use Rattle.binary32.specs.Ranges.{one32}
-use Rattle.binary32.specs.Round.{top32, roundHalfUp, toByte}
+use Rattle.binary32.specs.Round.{top32, toByte}
 use Rattle.composite.specs.Channels.{norm, normByte, over}
 use Rattle.composite.proofs.Within.{Grid, Within, minus, times, plus, settled}
 use Rattle.composite.proofs.Units.{fine, lo, hi, norm-in}

@@ -3,7 +3,7 @@ use mathlib.Core.Path.{_≡_}
 use mathlib.Core.Bool.{Bool, false, cond}
 use mathlib.Core.List.{List}
 use Prim.Native.Nat.{ℕ, zero, suc}
-use Rattle.picture.specs.Planes.{Plane, chan, painted}
+use Rattle.picture.specs.Planes.{chan, painted}
 use Rattle.picture.specs.declared.Pixel.{Pixel}
 use Rattle.binary32.specs.Ranges.{outsideUnit}
 use Rattle.composite.specs.Channels.{normByte, shadowAlpha, premultiply, over}

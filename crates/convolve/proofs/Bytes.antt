@@ -1,7 +1,7 @@
 -- Laws of a filled block: the sum of a lane is a sum of taps, which rounds to the byte of the convolution.
 use mathlib.Core.Path.{_≡_, sym, ap, _∙_, subst}
 use mathlib.Core.List.{List}
-use Prim.Native.Nat.{ℕ, _+_, _-_, _*_, _/_, _%_, _^_, _≤_, _<_}
+use Prim.Native.Nat.{ℕ, _+_, _-_, _*_, _/_, _%_, _≤_, _<_}
 use native.Mathlib.Nat.{add-mul, mul-le-mul-right, mul-add-div-right, mul-add-mod-self-right}
 use native.Mathlib.Omega.{arith}
 use lib.Dec.{T}
@@ -22,7 +22,7 @@ use Rattle.lanes.specs.Lanes.{widened, laneSum}
 use Rattle.lanes.proofs.Taps.{weighted-taps}
 use Rattle.convolve.specs.Blocks.{blockValue, lineByte}
 use Rattle.convolve.specs.Room.{Kernel}
-use Rattle.convolve.proofs.Taps.{few-taps, some-taps, most-taps}
+use Rattle.convolve.proofs.Taps.{few-taps, most-taps}
 
 -- the line holds a block of m elements and what the taps add at its ends
 pub record Filled (mode : EdgeMode) (weights : List Float) (src : List ℕ) (start len stride from n x m : ℕ) (line : List Float) : Type 0 where

@@ -1,6 +1,5 @@
 -- Laws of a kernel that checks 4 and 5 let through, and of the values that its taps reach.
 use mathlib.Core.Path.{_≡_}
-use mathlib.Core.Bool.{false}
 use mathlib.Core.List.{List}
 use Prim.Native.Nat.{ℕ, _+_, _-_, _*_, _/_, _≤_, _<_, min}
 use native.Mathlib.Nat.{add-mul, one-mul, mul-le-mul-left, mul-le-mul-right, le-div-iff-mul-le, div-mul-le-self}
@@ -10,7 +9,6 @@ use lib.Dec.{eqb, ltb}
 use lib.Ieee.{Float}
 use lib.ListN.{length}
 use Rattle.picture.specs.Refusal.{maxTaps, wrongTaps, zeroOrAbove}
-use Rattle.picture.specs.Sizes.{sideRoom}
 use Rattle.picture.proofs.Sizes.{room-is}
 use Rattle.picture.proofs.Tests.{neither}
 use Rattle.edges.specs.Edges.{Reach}

@@ -1,7 +1,7 @@
 // The convolution of lines. Bytes are made floats once for a block of elements, summed there lane by lane
 // under each tap, and rounded. Edges are worked out as a block is filled, once for each element.
 ghost use mathlib.Core.Path.{_≡_};
-ghost use Prim.Native.Nat.{ℕ, _+_, _-_, _*_, _/_, _%_, _≤_, _<_, min};
+ghost use Prim.Native.Nat.{ℕ, _+_, _-_, _*_, _/_, _≤_, _<_, min};
 ghost use lib.Ieee.{nan};
 ghost use lib.ListN.{length, getD};
 ghost use Rattle.picture.specs.Sizes.{levelBytes, Sized};
@@ -10,7 +10,7 @@ ghost use Rattle.passes.specs.Passes.{convolve};
 ghost use Rattle.passes.specs.Levels.{levelPass};
 ghost use Rattle.passes.specs.Written.{lane, passed};
 ghost use Rattle.lanes.specs.Lanes.{Span, widened};
-ghost use Rattle.convolve.specs.Blocks.{blockValue, lineByte, Made};
+ghost use Rattle.convolve.specs.Blocks.{blockValue, lineByte, Made, Convolved, Elements, Strip};
 ghost use Rattle.convolve.specs.Room.{Kernel, Source, Lines, whole, lanes, sumRoom, Buffers};
 use edges::At;
 use picture::EdgeMode;
@@ -156,7 +156,7 @@ fn convolve_whole(
 )
     requires { ⌜ Source (now src) (now weights) start len stride ⌝ ∗ ⌜ (0 < m) × (x + m ≤ len) ⌝ ∗ ⌜ len * stride ≤ length (now dst) ⌝
         ∗ ⌜ (m + (length (now weights) - 1)) * stride ≤ length (now line) ⌝ ∗ ⌜ m * stride ≤ length (now acc) ⌝ }
-    ensures { λ _. ⌜ Made 0 (lineByte mode (now (weights .entry)) (now (src .entry)) start len stride) (λ j. (x ≤ j / stride) × (j / stride < x + m)) (now (dst .entry)) (now (dst .exit)) ⌝ }
+    ensures { λ _. ⌜ Convolved mode (now (weights .entry)) (now (src .entry)) start len stride (Elements stride x (x + m)) (now (dst .entry)) (now (dst .exit)) ⌝ }
 {
     let taps = weights.len();
     let more = taps - 1;
@@ -182,7 +182,7 @@ fn convolve_strip(
 )
     requires { ⌜ Source (now src) (now weights) start len stride ⌝ ∗ ⌜ (0 < m) × (x + m ≤ len) ⌝ ∗ ⌜ len * stride ≤ length (now dst) ⌝
         ∗ ⌜ (m + (length (now weights) - 1)) * n ≤ length (now line) ⌝ ∗ ⌜ (0 < n) × (from + n ≤ stride) × (n ≤ length (now acc)) ⌝ }
-    ensures { λ _. ⌜ Made 0 (lineByte mode (now (weights .entry)) (now (src .entry)) start len stride) (λ j. (x ≤ j / stride) × (j / stride < x + m) × (from ≤ j % stride) × (j % stride < from + n)) (now (dst .entry)) (now (dst .exit)) ⌝ }
+    ensures { λ _. ⌜ Convolved mode (now (weights .entry)) (now (src .entry)) start len stride (Strip stride x (x + m) from (from + n)) (now (dst .entry)) (now (dst .exit)) ⌝ }
 {
     let taps = weights.len();
     let more = taps - 1;
@@ -232,7 +232,7 @@ fn convolve_strips(
 )
     requires { ⌜ Source (now src) (now weights) start len stride ⌝ ∗ ⌜ (0 < m) × (x + m ≤ len) ⌝ ∗ ⌜ len * stride ≤ length (now dst) ⌝
         ∗ ⌜ (m + (length (now weights) - 1)) * lanes ≤ length (now line) ⌝ ∗ ⌜ lanes ≤ length (now acc) ⌝ }
-    ensures { λ _. ⌜ Made 0 (lineByte mode (now (weights .entry)) (now (src .entry)) start len stride) (λ j. (x ≤ j / stride) × (j / stride < x + m)) (now (dst .entry)) (now (dst .exit)) ⌝ }
+    ensures { λ _. ⌜ Convolved mode (now (weights .entry)) (now (src .entry)) start len stride (Elements stride x (x + m)) (now (dst .entry)) (now (dst .exit)) ⌝ }
 {
     let mut from = 0;
     while from < stride {
@@ -272,7 +272,7 @@ fn convolve_block(
 )
     requires { ⌜ Source (now src) (now weights) start len stride ⌝ ∗ ⌜ (0 < m) × (x + m ≤ len) ⌝ ∗ ⌜ len * stride ≤ length (now dst) ⌝
         ∗ ⌜ m * min stride whole ≤ sumRoom ⌝ ∗ ⌜ Buffers (now line) (now acc) ⌝ }
-    ensures { λ _. ⌜ Made 0 (lineByte mode (now (weights .entry)) (now (src .entry)) start len stride) (λ j. (x ≤ j / stride) × (j / stride < x + m)) (now (dst .entry)) (now (dst .exit)) ⌝ }
+    ensures { λ _. ⌜ Convolved mode (now (weights .entry)) (now (src .entry)) start len stride (Elements stride x (x + m)) (now (dst .entry)) (now (dst .exit)) ⌝ }
 {
     if stride <= WHOLE {
         convolve_whole(line, acc, src, start, dst, len, stride, x, m, weights, mode);

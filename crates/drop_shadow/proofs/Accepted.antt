@@ -1,5 +1,5 @@
 -- Laws of an accepted call: what no refusal says, and a work buffer whose first part was lent and then cleared.
-use mathlib.Core.Path.{_≡_, _∙_, sym, ap}
+use mathlib.Core.Path.{_≡_, _∙_, ap}
 use mathlib.Core.Bool.{false}
 use mathlib.Core.List.{List, _++_}
 use Prim.Native.Nat.{ℕ, _≤_}

@@ -1,2 +1,5 @@
--- Laws of what an accepted call needs and leaves.
+-- Laws of what an accepted call needs and leaves, and of what its contract determines.
 pub mod Accepted
+pub mod Determined
+pub mod Alpha
+pub mod Alone

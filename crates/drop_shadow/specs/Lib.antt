@@ -1,4 +1,5 @@
--- What the drop shadow is, what it needs, and what its entry answers.
+-- What the drop shadow is, what it needs, what its entry answers, and when two calls are alike.
 pub mod Shadowed
 pub mod Needs
 pub mod Outcome
+pub mod Alike

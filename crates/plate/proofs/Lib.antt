@@ -1,5 +1,5 @@
 -- Laws of the definitions of specs/, for this crate's proofs and for those above it.
-pub mod Longest
+pub mod Lengths
 pub mod Settle
 pub mod Determined
 pub mod Cleared

@@ -14,7 +14,7 @@ use Rattle.plate_format.specs.Format.{count, isPlate}
 use Rattle.plate_format.proofs.Rules.{Obeyed, plate-entry}
 use Rattle.plate.specs.Lookup.{Picture, nothing, pictureOf, lookedUp}
 use Rattle.plate.specs.Job.{BodyBlur, longestBody, jobbed, Lent, lent, jobOutcome}
-use Rattle.plate.proofs.Longest.{longest-inside}
+use Rattle.plate.proofs.Lengths.{longest-inside}
 
 module _ (file : List ℕ) (index : ℕ) where
   -- 10: no plate

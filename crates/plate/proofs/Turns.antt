@@ -11,7 +11,7 @@ use Rattle.plate_format.specs.Format.{count, entryOf, bodyOffset, isPlate}
 use Rattle.plate_format.proofs.Rules.{plate-entry}
 use Rattle.plate.specs.Job.{BodyBlur, longestBelow, longestBody, jobbed, lent}
 use Rattle.plate.specs.Steps.{Ready, Blurred}
-use Rattle.plate.proofs.Longest.{longest-up}
+use Rattle.plate.proofs.Lengths.{longest-up}
 use Rattle.plate.proofs.Cleared.{length-cleared, cleared-twice}
 use Rattle.plate.proofs.After.{after, Keeps, after-none, after-all, after-more, length-after, count-kept, entry-kept, table-kept}
 

@@ -1,4 +1,4 @@
--- Whatever `shift`'s contract allows of one call is one outcome: any two results with the picture at exit coincide.
+-- Whatever `shift`'s contract allows of one call is one outcome: any two numbers with the picture at exit coincide.
 use mathlib.Core.Path.{_≡_, _∙_, sym, ap}
 use mathlib.Core.List.{List}
 use Prim.Native.Nat.{ℕ}
@@ -8,9 +8,10 @@ use denote.Triple.Clauses.{AtExit}
 use denote.Ref.{now}
 use Rattle.picture.specs.Answer.{Answer}
 use Rattle.shift.proofs.shift.Reads as shift
-use Rattle.shift.proofs.shift.Kinds as shift-kinds
+use Rattle.shift.proofs.shift.Kinds as kinds
 
-pub determined : (κs : Lfts 1) (a : Dens κs shift-kinds.ps) (r₁ r₂ : ℕ) (x₁ x₂ : AtExit (endedOf 1 shift-kinds.ps shift-kinds.r) κs) →
+pub determined : (κs : Lfts 1) (a : Dens κs kinds.ps) (r₁ r₂ : ℕ) (x₁ x₂ : AtExit (endedOf 1 kinds.ps kinds.r) κs) →
     shift.Post κs a r₁ x₁ → shift.Post κs a r₂ x₂ → (r₁ ≡ r₂) × (now (x₁ .0) ≡ now (x₂ .0))
 determined κs a r₁ r₂ x₁ x₂ h₁ h₂ =
-    (ap (λ (o : Answer (List ℕ)). o .number) (h₁ ∙ sym h₂), ap (λ (o : Answer (List ℕ)). o .left) (h₁ ∙ sym h₂))
+    let e = h₁ ∙ sym h₂ in
+    (ap (λ (o : Answer (List ℕ)). o .number) e, ap (λ (o : Answer (List ℕ)). o .left) e)

@@ -8,7 +8,7 @@ use lib.Ieee.{Float}
 use borrow.Author.Tests.{not-false}
 use Rattle.picture.specs.Planes.{Line}
 use Rattle.picture.proofs.Tests.{neither}
-use Rattle.picture.proofs.Planes.{length-painted, chan-painted, painted-ext}
+use Rattle.picture.proofs.Planes.{painted-same}
 use Rattle.binary32.specs.Ranges.{finite}
 use Rattle.binary32.specs.Round.{roundHalfUp, steps, minusSign, wholeOffset, roundOffset}
 use Rattle.binary32.specs.declared.Offset.{Offset}
@@ -42,8 +42,5 @@ pub held-picture : (dx dy : Offset) (w h : ℕ) (bytes : List ℕ) → OneWay dx
     shiftedPicture (held w dx) (held h dy) w h bytes ≡ shiftedPicture dx dy w h bytes
 unfolding shiftedPicture shifted
 held-picture dx dy w h bytes o u =
-    painted-ext w h _ _ (length-painted w h _)
-    (λ c x y lc lx ly.
-    chan-painted w h _ c x y lc lx ly
-    ∙ moved-held dx w _ x o lx
-    ∙ ap (λ (line : Line). moved dx w line x) (fun-ext (λ i. moved-held dy h _ y u ly)))
+    painted-same w h _ _
+    (λ c x y lc lx ly. moved-held dx w _ x o lx ∙ ap (λ (line : Line). moved dx w line x) (fun-ext (λ i. moved-held dy h _ y u ly)))

@@ -1,9 +1,9 @@
 -- The first i pixels of the copy are the table's, and the others are as they were.
-use mathlib.Core.Path.{_≡_, sym, ap, _∙_}
-use Prim.Native.Nat.{ℕ, _+_, _-_, _*_, _≤_}
+use mathlib.Core.Path.{sym, ap, _∙_}
+use Prim.Native.Nat.{_+_, _-_, _*_, _≤_}
 use native.Mathlib.Omega.{arith}
 use borrow.Author.Needs.{needs}
-use lib.ListN.{length, getD}
+use lib.ListN.{length}
 use Rattle.picture.specs.declared.Pixel.{Pixel}
 use Rattle.composite.specs.Pixels.{pixelAt}
 use Rattle.composite.specs.Shadow.{looked}

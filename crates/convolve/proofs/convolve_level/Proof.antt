@@ -5,7 +5,6 @@ use Prim.Native.Nat.{ℕ, _*_}
 use native.Mathlib.Nat.{mul-comm, mul-assoc, mul-left-comm, one-mul}
 use native.Mathlib.Omega.{arith}
 use borrow.Author.Needs.{needs}
-use lib.ListN.{length}
 use denote.Ref.{now}
 use Rattle.picture.specs.Sizes.{levelBytes, Sized}
 use Rattle.picture.specs.declared.LevelSize.{LevelSize}
@@ -17,12 +16,6 @@ use Rattle.passes.proofs.Levels.{level-passed}
 use Rattle.passes.proofs.Local.{Local, convolve-local}
 use Rattle.convolve.proofs.convolve_level.Statement.{statement}
 use Rattle.convolve.proofs.convolve_level.Tie as tie
-
-width-requires : tie.Need-width-requires
-width-requires c κs = search needs
-
-height-requires : tie.Need-height-requires
-height-requires c κs = search needs
 
 -- the bytes of a level, as its rows and as its columns
 rows-size : (s : LevelSize) (w h n : ℕ) → w ≡ s .w → h ≡ s .h → n ≡ levelBytes s → n ≡ h * (w * 4)
@@ -68,12 +61,6 @@ convolve-lines-requires-2 c κs =
       dst-size = size _ ew eh (s .pre .1 .0);
     }
 
-same-length : tie.Need-same-length
-same-length c = search needs
-
-same-length-2 : tie.Need-same-length-2
-same-length-2 c = search needs
-
 level-is : (f : Pass) → Local f → (s : LevelSize) → Sized s → (w h : ℕ) (src mid out : List ℕ) → w ≡ s .w → h ≡ s .h →
     mid ≡ passed f src h w w 4 → out ≡ passed f mid 1 h h (4 * w) → out ≡ levelPass f s s src
 level-is f l s z w h src mid out ew eh a b = b ∙ rw (a, ew, eh) (level-passed f l s s z src)
@@ -91,11 +78,11 @@ pub convolve-level-spec : {M : Type 1} → statement M
 convolve-level-spec =
     tie.close
     (tie.spec
-    width-requires
-    height-requires
+    (λ c κs. search needs)
+    (λ c κs. search needs)
     convolve-lines-requires
     mul-convolve-lines
     convolve-lines-requires-2
-    same-length
-    same-length-2
+    (λ c. search needs)
+    (λ c. search needs)
     returns)

@@ -1,12 +1,11 @@
 -- Each turn makes the bytes of one block more.
 use mathlib.Core.Path.{_≡_, refl, _∙_}
-use Prim.Native.Nat.{ℕ, _+_, _-_, _*_, _/_, _≤_, _<_, min}
+use Prim.Native.Nat.{_+_, _-_, _*_, _/_, _≤_, _<_, min}
 use native.Mathlib.Nat.{div-lt-iff-lt-mul}
 use native.Mathlib.Omega.{arith}
 use borrow.Author.Needs.{needs}
 use lib.ListN.{length}
-use denote.Ref.{now}
-use Rattle.convolve.specs.Blocks.{lineByte, Made}
+use Rattle.convolve.specs.Blocks.{Convolved}
 use Rattle.convolve.specs.Room.{whole, sumRoom}
 use Rattle.convolve.proofs.Progress.{made-none, made-join}
 use Rattle.convolve.proofs.Taps.{block-size}
@@ -19,7 +18,7 @@ Inv-loop line₀ acc₀ src start dst₀ len stride weights mode most x₀ line 
     × (length line ≡ length line₀)
     × (length acc ≡ length acc₀)
     × (length dst ≡ length dst₀)
-    × Made 0 (lineByte mode weights src start len stride) (λ j. j / stride < x) dst₀ dst
+    × Convolved mode weights src start len stride (λ j. j / stride < x) dst₀ dst
 
 abbrev μ-loop : tie.MeasureT-loop
 μ-loop line₀ acc₀ src start dst₀ len stride weights mode most x₀ line acc dst x = len - x

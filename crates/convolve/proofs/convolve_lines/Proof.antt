@@ -7,30 +7,18 @@ use Rattle.convolve.specs.Room.{sumRoom, lineRoom}
 use Rattle.convolve.proofs.convolve_lines.Statement.{statement}
 use Rattle.convolve.proofs.convolve_lines.Tie as tie
 
-slice-aggregate-each-line : tie.Need-slice-aggregate-each-line
-slice-aggregate-each-line c = search needs
-
-slice-aggregate-each-line-2 : tie.Need-slice-aggregate-each-line-2
-slice-aggregate-each-line-2 c = search needs
-
 each-line-requires : tie.Need-each-line-requires
 unfolding lineRoom maxTaps
 each-line-requires c κs =
     let zero = ofBits binary32 0 in
     (c .before .before .before .before .before .before .pre, record { line-size = length-replicate lineRoom zero; acc-size = length-replicate sumRoom zero })
 
-same-length : tie.Need-same-length
-same-length c = search needs
-
-returns : tie.Need-returns
-returns c = search needs
-
 pub convolve-lines-spec : {M : Type 1} → statement M
 convolve-lines-spec =
     tie.close
     (tie.spec
-    slice-aggregate-each-line
-    slice-aggregate-each-line-2
+    (λ c. search needs)
+    (λ c. search needs)
     each-line-requires
-    same-length
-    returns)
+    (λ c. search needs)
+    (λ c. search needs))

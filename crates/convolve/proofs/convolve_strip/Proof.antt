@@ -1,13 +1,13 @@
 -- The block is filled; then each turn rounds the sums of one element more.
 use mathlib.Core.Path.{_≡_, refl, _∙_}
-use Prim.Native.Nat.{ℕ, _+_, _-_, _*_, _/_, _%_, _≤_, _<_}
+use Prim.Native.Nat.{ℕ, _+_, _-_, _*_, _/_, _≤_}
 use native.Mathlib.Omega.{arith}
 use lib.ListN.{length, getD}
 use denote.Ref.{now}
 use Rattle.picture.specs.declared.EdgeMode.{EdgeMode}
 use Rattle.edges.specs.Edges.{Reach}
 use Rattle.passes.proofs.Written.{within}
-use Rattle.convolve.specs.Blocks.{lineByte, Made}
+use Rattle.convolve.specs.Blocks.{Convolved, Strip}
 use Rattle.convolve.proofs.Progress.{made-none, made-in, made-span, made-join}
 use Rattle.convolve.proofs.Places.{strip-place, strip-at}
 use Rattle.convolve.proofs.Taps.{some-taps, block-reach, taps-room}
@@ -22,7 +22,7 @@ Inv-loop line acc₀ src start dst₀ len stride x m from n weights taps more i�
     × (length acc ≡ length acc₀)
     × (length dst ≡ length dst₀)
     × ((mode : EdgeMode) → Filled mode weights src start len stride from n x m line →
-    Made 0 (lineByte mode weights src start len stride) (λ j. (x ≤ j / stride) × (j / stride < x + i) × (from ≤ j % stride) × (j % stride < from + n)) dst₀ dst)
+    Convolved mode weights src start len stride (Strip stride x (x + i) from (from + n)) dst₀ dst)
 
 abbrev μ-loop : tie.MeasureT-loop
 μ-loop line acc₀ src start dst₀ len stride x m from n weights taps more i₀ acc dst i = m - i

@@ -1,12 +1,12 @@
 -- Each turn makes one strip more.
 use mathlib.Core.Path.{_≡_, refl, _∙_}
-use Prim.Native.Nat.{ℕ, _+_, _-_, _*_, _/_, _%_, _≤_, _<_}
+use Prim.Native.Nat.{_+_, _-_, _%_, _≤_, _<_}
 use native.Mathlib.Nat.{mul-le-mul-left, mod-lt}
 use native.Mathlib.Omega.{arith}
 use borrow.Author.Needs.{needs}
 use lib.ListN.{length}
 use denote.Ref.{now}
-use Rattle.convolve.specs.Blocks.{lineByte, Made}
+use Rattle.convolve.specs.Blocks.{Convolved, Elements}
 use Rattle.convolve.specs.Room.{lanes}
 use Rattle.convolve.proofs.Progress.{made-none, made-in, made-join}
 use Rattle.convolve.proofs.convolve_strips.Statement.{statement}
@@ -18,7 +18,7 @@ Inv-loop line₀ acc₀ src start dst₀ len stride x m weights mode from₀ lin
     × (length line ≡ length line₀)
     × (length acc ≡ length acc₀)
     × (length dst ≡ length dst₀)
-    × Made 0 (lineByte mode weights src start len stride) (λ j. (x ≤ j / stride) × (j / stride < x + m) × (j % stride < from)) dst₀ dst
+    × Convolved mode weights src start len stride (λ j. Elements stride x (x + m) j × (j % stride < from)) dst₀ dst
 
 abbrev μ-loop : tie.MeasureT-loop
 μ-loop line₀ acc₀ src start dst₀ len stride x m weights mode from₀ line acc dst from = stride - from
@@ -59,7 +59,7 @@ returns : tie.Need-returns Inv-loop μ-loop
 returns c =
     let l = c .before in
     let s = l .before .before .before .before .before .before in
-    made-in (l .loop .inv .4) (λ j r. (r .0, r .1, omega (arith, c .loop-test .left, mod-lt j (s .pre .0 .stride-low))))
+    made-in (l .loop .inv .4) (λ j r. (r, omega (arith, c .loop-test .left, mod-lt j (s .pre .0 .stride-low))))
 
 pub convolve-strips-spec : {M : Type 1} → statement M
 convolve-strips-spec =

@@ -1,6 +1,6 @@
 -- Each turn makes one line more, in the part of dst that it is lent.
 use mathlib.Core.Path.{_≡_, refl, _∙_}
-use Prim.Native.Nat.{ℕ, _+_, _-_, _*_, _≤_, _<_, _^_}
+use Prim.Native.Nat.{_+_, _-_, _*_, _≤_, _<_, _^_}
 use native.Mathlib.Nat.{zero-add}
 use native.Mathlib.Omega.{arith}
 use borrow.Rule.Slice.PartMut.{same-len-mid}
@@ -42,19 +42,10 @@ ends c =
 fits : (l : tie.At-loop Inv-loop μ-loop) → length (now (start l .args .dst)) < 2 ^ 64
 fits l = start l .good .1 .1 .1 .0 .0
 
-mul-size : tie.Need-mul-size Inv-loop μ-loop
-mul-size c = omega (arith, ends c, start (c .before) .pre .0 .dst-size, fits (c .before))
-
-mul-o : tie.Need-mul-o Inv-loop μ-loop
-mul-o c = omega (arith, ends c, start (c .before) .pre .0 .dst-size, fits (c .before))
-
 add-convolve-line : tie.Need-add-convolve-line Inv-loop μ-loop
 add-convolve-line c =
     let t = c .before .before in
     omega (arith, ends t, start (t .before) .pre .0 .dst-size, fits (t .before))
-
-part-convolve-line-start : tie.Need-part-convolve-line-start Inv-loop μ-loop
-part-convolve-line-start c = omega arith
 
 part-convolve-line-end : tie.Need-part-convolve-line-end Inv-loop μ-loop
 part-convolve-line-end c =
@@ -109,11 +100,11 @@ each-line-spec =
     Inv-loop
     μ-loop
     loop-holds
-    mul-size
-    mul-o
+    (λ c. omega (arith, ends c, start (c .before) .pre .0 .dst-size, fits (c .before)))
+    (λ c. omega (arith, ends c, start (c .before) .pre .0 .dst-size, fits (c .before)))
     add-convolve-line
     (λ c. omega arith)
-    part-convolve-line-start
+    (λ c. omega arith)
     part-convolve-line-end
     convolve-line-requires
     (λ c. omega arith)

@@ -1,11 +1,10 @@
 -- Each turn makes the values of one element more.
-use mathlib.Core.Path.{_≡_, refl, ap, _∙_}
-use Prim.Native.Nat.{ℕ, _+_, _-_, _*_, _≤_, _<_}
+use mathlib.Core.Path.{_≡_, refl, _∙_}
+use Prim.Native.Nat.{_+_, _-_, _*_, _≤_, _<_}
 use native.Mathlib.Nat.{add-mul, one-mul}
 use native.Mathlib.Omega.{arith}
 use lib.Ieee.{nan}
 use lib.ListN.{length}
-use denote.Ref.{now}
 use Rattle.passes.proofs.Written.{within}
 use Rattle.convolve.specs.Blocks.{blockValue, Made}
 use Rattle.convolve.proofs.Progress.{made-none, made-span, made-join}
@@ -31,9 +30,6 @@ room c =
     let s = l .before .before .before in
     omega (arith, within 0 (s .args .n) (l .loop .e) (s .args .last) (c .loop-test .taken), s .pre .0 .1, l .loop .inv .2)
 
-mul-fill-element : tie.Need-mul-fill-element Inv-loop μ-loop
-mul-fill-element c = omega (arith, room (c .before))
-
 fill-element-requires : tie.Need-fill-element-requires Inv-loop μ-loop
 fill-element-requires c κs =
     let s = c .before .before .before .before .before in
@@ -57,9 +53,6 @@ loop-again c =
           (λ k r u. omega arith),
     )
 
-same-length : tie.Need-same-length Inv-loop μ-loop
-same-length c = c .before .loop .inv .2
-
 returns : tie.Need-returns Inv-loop μ-loop
 returns c = let e : c .before .loop .e ≡ c .before .before .before .before .args .last = omega arith in rw e at (c .before .loop .inv .3)
 
@@ -70,11 +63,11 @@ fill-spec =
     Inv-loop
     μ-loop
     loop-holds
-    mul-fill-element
+    (λ c. omega (arith, room (c .before)))
     (λ c. omega arith)
     fill-element-requires
     (λ c. omega arith)
     (λ c. omega arith)
     loop-again
-    same-length
+    (λ c. c .before .loop .inv .2)
     returns)

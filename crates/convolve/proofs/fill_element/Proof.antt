@@ -7,7 +7,7 @@ use borrow.Author.Needs.{needs}
 use lib.ListN.{getD}
 use denote.Ref.{now}
 use Rattle.edges.specs.declared.At.{At}
-use Rattle.edges.specs.declared.At.the-variants.{Inside, Outside}
+use Rattle.edges.specs.declared.At.the-variants.{Inside}
 use Rattle.edges.specs.Edges.{place, Below}
 use Rattle.edges.proofs.Places.{below}
 use Rattle.passes.specs.Written.{lane}
@@ -17,12 +17,6 @@ use Rattle.lanes.proofs.Spans.{span-same}
 use Rattle.convolve.proofs.Values.{placed, nothing}
 use Rattle.convolve.proofs.fill_element.Statement.{statement}
 use Rattle.convolve.proofs.fill_element.Tie as tie
-
-extend-requires : tie.Need-extend-requires
-extend-requires c κs = search needs
-
-enum-known-i : tie.Need-enum-known-i
-enum-known-i c = search needs
 
 abbrev start : tie.After-widen-arg → tie.Start
 start c = c .before .before .before .before .before .before .before
@@ -38,27 +32,6 @@ module _ (c : tie.After-widen-arg) where
       within (a .start) (a .stride) (c .before .before .i .given .0 .0) (a .len)
       (subst (λ (p : At). Below p (a .len)) is-inside (below (a .mode) (a .len) (a .c) (a .d) (start c .pre .1 .1 .1 .s-low)))
 
-mul-widen : tie.Need-mul-widen
-mul-widen c = omega (arith, ends c)
-
-add-widen : tie.Need-add-widen
-add-widen c = omega (arith, ends c)
-
-add-widen-2 : tie.Need-add-widen-2
-add-widen-2 c = omega (arith, ends c)
-
-widen-requires : tie.Need-widen-requires
-widen-requires c κs = omega (arith, ends c)
-
-enum-told : tie.Need-enum-told
-enum-told c = search needs
-
-clear-requires : tie.Need-clear-requires
-clear-requires c κs = search needs
-
-same-length : tie.Need-same-length
-same-length c = search needs
-
 returns : tie.Need-returns
 returns c =
     let t = c .before .before in
@@ -70,9 +43,6 @@ returns c =
     ap widened
     (ap (λ (m : ℕ). getD (now (a .src)) m 0) (add-assoc (a .start + i * a .stride) (a .from) _)
     ∙ placed (a .mode) (a .len) (a .c) (a .d) (lane (now (a .src)) (a .start) (a .stride) (a .from + _)) (is-inside s)))
-
-same-length-2 : tie.Need-same-length-2
-same-length-2 c = search needs
 
 returns-2 : tie.Need-returns-2
 returns-2 c =
@@ -88,15 +58,15 @@ pub fill-element-spec : {M : Type 1} → statement M
 fill-element-spec =
     tie.close
     (tie.spec
-    extend-requires
-    enum-known-i
-    mul-widen
-    add-widen
-    add-widen-2
-    widen-requires
-    enum-told
-    clear-requires
-    same-length
+    (λ c κs. search needs)
+    (λ c. search needs)
+    (λ c. omega (arith, ends c))
+    (λ c. omega (arith, ends c))
+    (λ c. omega (arith, ends c))
+    (λ c κs. omega (arith, ends c))
+    (λ c. search needs)
+    (λ c κs. search needs)
+    (λ c. search needs)
     returns
-    same-length-2
+    (λ c. search needs)
     returns-2)

@@ -1,6 +1,6 @@
 -- The values before the run, the run, and those after it, one after the other.
 use mathlib.Core.Path.{_≡_}
-use Prim.Native.Nat.{ℕ, _+_, _-_, _*_, _≤_, _<_, min}
+use Prim.Native.Nat.{ℕ, _+_, _-_, _*_, _≤_, _<_}
 use native.Mathlib.Omega.{arith}
 use borrow.Author.Needs.{needs}
 use denote.Ref.{now}
@@ -9,18 +9,6 @@ use Rattle.convolve.proofs.Progress.{made-span, made-join}
 use Rattle.convolve.proofs.Values.{run-ends, run-fits, run-value}
 use Rattle.convolve.proofs.fill_whole.Statement.{statement}
 use Rattle.convolve.proofs.fill_whole.Tie as tie
-
-excess-requires : tie.Need-excess-requires
-excess-requires c κs = search needs
-
-add-least : tie.Need-add-least
-add-least c = omega (arith, room-is)
-
-sub-least : tie.Need-sub-least
-sub-least c = search needs
-
-least-requires : tie.Need-least-requires
-least-requires c κs = search needs
 
 module _ (c : tie.After-least) where
   abbrev low : ℕ
@@ -46,36 +34,6 @@ fill-requires c κs =
     let r = s .pre .1 .1 .1 in
     ((omega arith, omega (arith, fits l)), (omega arith, (s .pre .1 .1 .0, record { s-low = r .s-low; s-high = r .s-high; c-high = omega (arith, ends l); d-high = r .d-high })))
 
-mul-widen : tie.Need-mul-widen
-mul-widen c = omega (arith, fits (c .before .before .before .before .before))
-
-sub-widen : tie.Need-sub-widen
-sub-widen c = search needs
-
-mul-widen-2 : tie.Need-mul-widen-2
-mul-widen-2 c = omega (arith, fits (c .before .before .before .before .before))
-
-add-widen : tie.Need-add-widen
-add-widen c = search needs
-
-sub-widen-2 : tie.Need-sub-widen-2
-sub-widen-2 c = search needs
-
-mul-widen-3 : tie.Need-mul-widen-3
-mul-widen-3 c = omega (arith, fits (c .before .before .before .before .before))
-
-add-widen-2 : tie.Need-add-widen-2
-add-widen-2 c = omega (arith, fits (c .before .before .before .before .before))
-
-widen-requires : tie.Need-widen-requires
-widen-requires c κs = omega (arith, fits (c .before .before .before .before .before), c .before .before .before .fill .kept .0)
-
-fill-requires-2 : tie.Need-fill-requires-2
-fill-requires-2 c κs = search needs
-
-same-length : tie.Need-same-length
-same-length c = search needs
-
 returns : tie.Need-returns
 returns c =
     let t = c .before .before in
@@ -97,19 +55,19 @@ pub fill-whole-spec : {M : Type 1} → statement M
 fill-whole-spec =
     tie.close
     (tie.spec
-    excess-requires
-    add-least
-    sub-least
-    least-requires
+    (λ c κs. search needs)
+    (λ c. omega (arith, room-is))
+    (λ c. search needs)
+    (λ c κs. search needs)
     fill-requires
-    mul-widen
-    sub-widen
-    mul-widen-2
-    add-widen
-    sub-widen-2
-    mul-widen-3
-    add-widen-2
-    widen-requires
-    fill-requires-2
-    same-length
+    (λ c. omega (arith, fits (c .before .before .before .before .before)))
+    (λ c. search needs)
+    (λ c. omega (arith, fits (c .before .before .before .before .before)))
+    (λ c. search needs)
+    (λ c. search needs)
+    (λ c. omega (arith, fits (c .before .before .before .before .before)))
+    (λ c. omega (arith, fits (c .before .before .before .before .before)))
+    (λ c κs. omega (arith, fits (c .before .before .before .before .before), c .before .before .before .fill .kept .0))
+    (λ c κs. search needs)
+    (λ c. search needs)
     returns)

@@ -47,15 +47,6 @@ loop-holds c =
     let a = s .args in
     (s .pre .1 .some, refl, (λ i h. c .before .before .first-tap .ensures .inside i (omega arith) h ∙ sum-first (now (a .line)) (a .a) (a .step) (now (a .weights)) i))
 
-mul-b : tie.Need-mul-b Inv-loop μ-loop
-mul-b c = let l = c .before in omega (arith, two l (omega arith), fits l)
-
-add-b : tie.Need-add-b Inv-loop μ-loop
-add-b c = let l = c .before in omega (arith, two l (omega arith), fits l)
-
-add-add-two : tie.Need-add-add-two Inv-loop μ-loop
-add-add-two c = let l = c .before .before .before in omega (arith, two l (omega (arith, c .before .before .loop-test .taken)), fits l)
-
 add-two-requires : tie.Need-add-two-requires Inv-loop μ-loop
 add-two-requires c κs =
     let l = c .before .before .before .before in
@@ -71,12 +62,6 @@ loop-again c =
       (λ i h.
           t .add-two .ensures .inside i (omega arith) h ∙ sum-two (now (a .line)) (a .a) (a .step) (now (a .weights)) i (l .loop .j) (l .loop .inv .2 i h) refl),
     )
-
-mul-add-tap : tie.Need-mul-add-tap Inv-loop μ-loop
-mul-add-tap c = let l = c .before .before .before in omega (arith, one l (c .before .if1 .taken), fits l)
-
-add-add-tap : tie.Need-add-add-tap Inv-loop μ-loop
-add-add-tap c = let l = c .before .before .before in omega (arith, one l (c .before .if1 .taken), fits l)
 
 add-tap-requires : tie.Need-add-tap-requires Inv-loop μ-loop
 add-tap-requires c κs =
@@ -97,9 +82,6 @@ returns c =
     ∙ sum-more (now (a .line)) (a .a) (a .step) (now (a .weights)) i (l .loop .j) (l .loop .inv .2 i h) refl
     ∙ ap (λ (k : ℕ). laneSum (now (a .line)) (a .a) (a .step) (now (a .weights)) k i) e
 
-same-length-2 : tie.Need-same-length-2 Inv-loop μ-loop
-same-length-2 c = kept (c .before .before)
-
 returns-2 : tie.Need-returns-2 Inv-loop μ-loop
 returns-2 c =
     let l = c .before .before in
@@ -116,11 +98,11 @@ sums-spec =
     first-tap-requires
     loop-holds
     (λ c. omega arith)
-    mul-b
-    add-b
+    (λ c. let l = c .before in omega (arith, two l (omega arith), fits l))
+    (λ c. let l = c .before in omega (arith, two l (omega arith), fits l))
     (λ c. omega arith)
     (λ c. omega arith)
-    add-add-two
+    (λ c. let l = c .before .before .before in omega (arith, two l (omega (arith, c .before .before .loop-test .taken)), fits l))
     (λ c. omega arith)
     (λ c. omega arith)
     (λ c. omega arith)
@@ -128,12 +110,12 @@ sums-spec =
     (λ c. omega arith)
     (λ c. omega arith)
     loop-again
-    mul-add-tap
-    add-add-tap
+    (λ c. let l = c .before .before .before in omega (arith, one l (c .before .if1 .taken), fits l))
+    (λ c. let l = c .before .before .before in omega (arith, one l (c .before .if1 .taken), fits l))
     (λ c. omega arith)
     (λ c. omega arith)
     add-tap-requires
     same-length
     returns
-    same-length-2
+    (λ c. kept (c .before .before))
     returns-2)

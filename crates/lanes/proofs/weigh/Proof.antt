@@ -10,20 +10,11 @@ use Rattle.lanes.proofs.Spans.{span-same}
 use Rattle.lanes.proofs.weigh.Statement.{statement}
 use Rattle.lanes.proofs.weigh.Tie as tie
 
-sums-requires : tie.Need-sums-requires
-sums-requires c κs = search needs
-
 round-lanes-requires : tie.Need-round-lanes-requires
 round-lanes-requires c κs =
     let t = c .before .before .before .before in
     let s = t .before .before .before .before .before .before in
     (s .pre .0, (omega (arith, t .sums .kept .0, s .pre .1 .0), (λ i h. subst (λ (x : Float). T (nonneg x)) (sym (t .sums .ensures i h)) (s .pre .1 .1 .1 i h))))
-
-same-length : tie.Need-same-length
-same-length c = search needs
-
-same-length-2 : tie.Need-same-length-2
-same-length-2 c = search needs
 
 returns : tie.Need-returns
 returns c =
@@ -33,4 +24,4 @@ returns c =
 
 pub weigh-spec : {M : Type 1} → statement M
 weigh-spec =
-    tie.close (tie.spec sums-requires round-lanes-requires same-length same-length-2 returns)
+    tie.close (tie.spec (λ c κs. search needs) round-lanes-requires (λ c. search needs) (λ c. search needs) returns)

@@ -22,8 +22,11 @@ loop-holds c =
     (omega arith, refl, rw (zero-mul (a .w)) (below-none (a .bytes .now) (blankColumns (a .w) (a .start) (a .n) (a .bytes .now))))
 
 -- a row's columns lie inside
-room : (c : tie.After-clear-run-arg Inv-loop μ-loop) → c .before .before .loop .y * c .before .before .before .before .args .w + c .before .before .before .before .args .w ≤ length (c .before .before .before .before .args .bytes .now)
-room c = let a = c .before .before .before .before .args in omega (arith, row-fits (a .w) (a .h) (c .before .before .loop .y) (omega arith))
+room : (c : tie.After-clear-run-arg Inv-loop μ-loop) → let at = c .before .before in let a = at .before .before .args in at .loop .y * a .w + a .w ≤ length (a .bytes .now)
+room c =
+    let at = c .before .before in
+    let a = at .before .before .args in
+    omega (arith, row-fits (a .w) (a .h) (at .loop .y) (omega arith))
 
 mul-clear-run : tie.Need-mul-clear-run Inv-loop μ-loop
 mul-clear-run c = omega (arith, room c)

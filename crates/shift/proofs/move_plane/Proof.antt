@@ -24,12 +24,9 @@ returns c =
     c .before .before .clear-run .ensures
     ∙ out-zeroed (a .dx) (a .dy) (a .w) (a .h) (a .bytes .now) (s .pre .0) (s .pre .1) (s .pre .2) (sym (e .moved-out .ensures) ∙ c .before .before .before .before .if1 .taken)
 
-abbrev start : tie.Else1 → tie.Start
-start c = c .before .before .before
-
 -- something lies inside
-room : (c : tie.Else1) → Reaches (start c .args .dx) (start c .args .dy) (start c .args .w) (start c .args .h)
-room c = let a = start c .args in some-inside (a .dx) (a .dy) (a .w) (a .h) (sym (c .before .moved-out .ensures) ∙ c .if1 .left)
+room : (c : tie.Else1) → let a = c .before .before .before .args in Reaches (a .dx) (a .dy) (a .w) (a .h)
+room c = let a = c .before .before .before .args in some-inside (a .dx) (a .dy) (a .w) (a .h) (sym (c .before .moved-out .ensures) ∙ c .if1 .left)
 
 mul-t14 : tie.Need-mul-t14
 mul-t14 c = omega (arith, room (c .before .before) .onward)

@@ -26,12 +26,12 @@ abbrev start : tie.After-height → tie.Start
 start c = c .before .before .before .before
 
 -- the sides are the size's, and have room
-sides : (c : tie.After-height) → (c .before .width .result ≡ start c .args .size .w) × (c .height .result ≡ start c .args .size .h)
+sides : (c : tie.After-height) → let z = start c .args .size in (c .before .width .result ≡ z .w) × (c .height .result ≡ z .h)
 sides c =
     let z = c .before .before .level-zero .ensures in
     (c .before .width .ensures ∙ ap (λ (l : LevelSize). l .w) z, c .height .ensures ∙ ap (λ (l : LevelSize). l .h) z)
 
-fits : (c : tie.After-height) → (start c .args .size .w ≤ 65536) × (start c .args .size .h ≤ 65536)
+fits : (c : tie.After-height) → let z = start c .args .size in (z .w ≤ 65536) × (z .h ≤ 65536)
 fits c = let z = start c .pre .sized in (omega (arith, z .w-high, room-is), omega (arith, z .h-high, room-is))
 
 round-offset-requires : tie.Need-round-offset-requires
@@ -41,12 +41,12 @@ round-offset-requires-2 : tie.Need-round-offset-requires-2
 round-offset-requires-2 c κs = omega (arith, sides (c .before), fits (c .before))
 
 -- the offsets are rounded, and held to the sides
-across : (c : tie.After-round-offset2) → c .before .round-offset .result ≡ held (start (c .before .before) .args .size .w) (wholeOffset (start (c .before .before) .args .dx))
+across : (c : tie.After-round-offset2) → let a = start (c .before .before) .args in c .before .round-offset .result ≡ held (a .size .w) (wholeOffset (a .dx))
 across c =
     let s = start (c .before .before) in
     rounded-held _ _ _ _ (sides (c .before .before) .0) (both-finite (s .args .dx) (s .args .dy) (s .pre .offsets) .0) (c .before .round-offset .ensures)
 
-down : (c : tie.After-round-offset2) → c .round-offset2 .result ≡ held (start (c .before .before) .args .size .h) (wholeOffset (start (c .before .before) .args .dy))
+down : (c : tie.After-round-offset2) → let a = start (c .before .before) .args in c .round-offset2 .result ≡ held (a .size .h) (wholeOffset (a .dy))
 down c =
     let s = start (c .before .before) in
     rounded-held _ _ _ _ (sides (c .before .before) .1) (both-finite (s .args .dx) (s .args .dy) (s .pre .offsets) .1) (c .round-offset2 .ensures)

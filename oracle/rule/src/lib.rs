@@ -1,0 +1,14 @@
+//! Document 01's rules, written plainly from the paper: what every entry answers and does to lent bytes.
+pub mod blur;
+pub mod edges;
+pub mod exact;
+pub mod grading;
+pub mod plate;
+pub mod refusal;
+pub mod scheme;
+pub mod shadow;
+pub mod shift;
+
+pub const LARGEST_SIDE: u32 = 4096;
+pub const MOST_TAPS: usize = 33;
+pub const MOST_DECIMATIONS: u32 = 12;

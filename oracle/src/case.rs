@@ -1,0 +1,237 @@
+//! A case is one call of one entry; an outcome is its answer and all lent bytes afterwards.
+use crate::library::Library;
+use std::fmt;
+
+#[derive(Clone, Copy, Debug, PartialEq, Eq, PartialOrd, Ord)]
+pub enum Entry {
+    Blur,
+    Shift,
+    Shadow,
+    Check,
+    View,
+    Sample,
+    Spread,
+    PlatePicture,
+    PlateJob,
+}
+
+pub const ENTRIES: [Entry; 9] = [
+    Entry::Blur,
+    Entry::Shift,
+    Entry::Shadow,
+    Entry::Check,
+    Entry::View,
+    Entry::Sample,
+    Entry::Spread,
+    Entry::PlatePicture,
+    Entry::PlateJob,
+];
+
+/// Whatever an entry does not take stays at its default.
+#[derive(Clone, Debug, PartialEq)]
+pub struct Case {
+    pub entry: Entry,
+    pub w: u32,
+    pub h: u32,
+    /// The picture, or the plate.
+    pub picture: Vec<u8>,
+    /// The lengths of the work buffers.
+    pub scratch: usize,
+    pub copy: usize,
+    pub weights: Vec<f32>,
+    pub n: u32,
+    pub edge: u32,
+    pub strength: f32,
+    pub dx: f32,
+    pub dy: f32,
+    pub colour: [f32; 4],
+    pub composite: u32,
+    /// The coordinates of a sample; x is also the index of a plate's picture.
+    pub x: i32,
+    pub y: i32,
+}
+
+#[derive(Clone, Debug, PartialEq)]
+pub struct Outcome {
+    pub answer: u32,
+    pub picture: Vec<u8>,
+    pub scratch: Vec<u8>,
+    pub copy: Vec<u8>,
+    /// The out-parameters in their order, those not taken 0.
+    pub numbers: [u64; 4],
+    /// A byte outside the lent buffers, or a lent weight, was changed.
+    pub strayed: bool,
+}
+
+impl Case {
+    pub fn new(entry: Entry, w: u32, h: u32, picture: Vec<u8>) -> Case {
+        let length = picture.len();
+        Case {
+            entry,
+            w,
+            h,
+            picture,
+            scratch: length,
+            copy: length,
+            weights: Vec::new(),
+            n: 0,
+            edge: 0,
+            strength: 1.0,
+            dx: 0.0,
+            dy: 0.0,
+            colour: [0.0, 0.0, 0.0, 1.0],
+            composite: 0,
+            x: 0,
+            y: 0,
+        }
+    }
+
+    /// The entries that blur with an edge rule, n and a kernel.
+    pub fn blurs(&self) -> bool {
+        matches!(self.entry, Entry::Blur | Entry::Shadow)
+    }
+
+    pub fn shifts(&self) -> bool {
+        matches!(self.entry, Entry::Shift | Entry::Shadow)
+    }
+
+    pub fn is_plate(&self) -> bool {
+        matches!(self.entry, Entry::PlatePicture | Entry::PlateJob)
+    }
+}
+
+/// What a work buffer holds before a call: never zero, and different from place to place.
+pub fn work(i: usize) -> u8 {
+    (i % 251) as u8 + 1
+}
+
+const GUARD: usize = 64;
+
+/// A lent buffer between guard bytes.
+struct Lent {
+    bytes: Vec<u8>,
+    from: usize,
+    length: usize,
+}
+
+impl Lent {
+    /// Begins at any alignment, by `turn`.
+    fn new(content: impl ExactSizeIterator<Item = u8>, turn: usize) -> Lent {
+        let (from, length) = (GUARD + turn % 16, content.len());
+        let mut bytes: Vec<u8> = (0..from).map(work).collect();
+        bytes.extend(content);
+        bytes.extend((from + length..from + length + GUARD).map(work));
+        Lent { bytes, from, length }
+    }
+
+    fn part(&mut self) -> Part {
+        // SAFETY: `from` lies inside.
+        Part { at: unsafe { self.bytes.as_mut_ptr().add(self.from) }, length: self.length }
+    }
+
+    fn content(&self) -> Vec<u8> {
+        self.bytes[self.from..self.from + self.length].to_vec()
+    }
+
+    fn strayed(&self) -> bool {
+        let guard = |i: &usize| *i < self.from || *i >= self.from + self.length;
+        (0..self.bytes.len()).filter(guard).any(|i| self.bytes[i] != work(i))
+    }
+}
+
+/// A buffer as C has it.
+#[derive(Clone, Copy)]
+pub struct Part {
+    at: *mut u8,
+    length: usize,
+}
+
+impl From<&mut Vec<u8>> for Part {
+    fn from(buffer: &mut Vec<u8>) -> Part {
+        Part { at: buffer.as_mut_ptr(), length: buffer.len() }
+    }
+}
+
+/// Calls the entry with every buffer between guard bytes.
+pub fn run(library: &Library, case: &Case) -> Outcome {
+    let turn = case.picture.len() / 4 + case.weights.len();
+    let mut picture = Lent::new(case.picture.iter().copied(), turn);
+    let mut scratch = Lent::new((0..case.scratch).map(work), turn / 3);
+    let mut copy = Lent::new((0..case.copy).map(work), turn / 5);
+    let lent = case.clone();
+    // SAFETY: no two buffers overlap.
+    let (answer, numbers) = unsafe { call(library, &lent, picture.part(), scratch.part(), copy.part()) };
+    let same_weights = lent.weights.iter().zip(&case.weights).all(|(a, b)| a.to_bits() == b.to_bits());
+    Outcome {
+        answer,
+        picture: picture.content(),
+        scratch: scratch.content(),
+        copy: copy.content(),
+        numbers,
+        strayed: picture.strayed() || scratch.strayed() || copy.strayed() || !same_weights,
+    }
+}
+
+/// What the out-parameters hold before a call.
+const UNSET: u64 = 0xDEAD_BEEF_DEAD_BEEF;
+
+/// Calls the entry and answers its number and its out-parameters. The buffers must not overlap.
+#[rustfmt::skip]
+pub unsafe fn call(library: &Library, case: &Case, picture: Part, scratch: Part, copy: Part) -> (u32, [u64; 4]) {
+    let Case { w, h, n, edge, dx, dy, strength, composite, x, y, .. } = *case;
+    let (Part { at: p, length: p_len }, Part { at: s, length: s_len }) = (picture, scratch);
+    let (Part { at: c, length: c_len }, [red, green, blue, alpha]) = (copy, case.colour);
+    let (k, k_len) = (case.weights.as_ptr(), case.weights.len());
+    let ([mut wide, mut high], [mut far, mut long]) = ([UNSET as u32; 2], [UNSET; 2]);
+    let answer = match case.entry {
+        Entry::Blur => (library.blur)(p, p_len, w, h, s, s_len, k, k_len, n, strength, edge),
+        Entry::Shift => (library.shift)(p, p_len, w, h, dx, dy),
+        Entry::Shadow => (library.shadow)(
+            p, p_len, w, h, s, s_len, c, c_len, k, k_len, n, edge,
+            dx, dy, strength, red, green, blue, alpha, composite,
+        ),
+        Entry::Check => (library.check)(p, p_len, w, h, &mut wide, &mut far),
+        Entry::View => (library.view)(p, p_len, w, h, edge),
+        Entry::Sample => (library.sample)(p, p_len, w, h, edge, x, y),
+        Entry::Spread => (library.spread)(k, k_len, n, &mut far),
+        Entry::PlatePicture => {
+            (library.plate_picture)(p, p_len, x as u32, &mut wide, &mut high, &mut far, &mut long)
+        }
+        Entry::PlateJob => (library.plate_job)(p, p_len, s, s_len),
+    };
+    let numbers = match case.entry {
+        Entry::Check => [wide.into(), far, 0, 0],
+        Entry::Spread => [far, 0, 0, 0],
+        Entry::PlatePicture => [wide.into(), high.into(), far, long],
+        _ => [0; 4],
+    };
+    (answer, numbers)
+}
+
+/// Long lists are cut: a smallest input is short anyway.
+fn list<T: fmt::Debug>(f: &mut fmt::Formatter, name: &str, values: &[T]) -> fmt::Result {
+    let cut = if values.len() > 200 { " .." } else { "" };
+    write!(f, " {name}({}) {:?}{cut}", values.len(), &values[..values.len().min(200)])
+}
+
+impl fmt::Display for Case {
+    fn fmt(&self, f: &mut fmt::Formatter) -> fmt::Result {
+        write!(f, "{:?} {} by {}", self.entry, self.w, self.h)?;
+        if self.blurs() || self.entry == Entry::Spread {
+            list(f, "weights", &self.weights)?;
+            write!(f, " n {} strength {:?} edge {}", self.n, self.strength, self.edge)?;
+        }
+        if self.shifts() {
+            write!(f, " dx {:?} dy {:?}", self.dx, self.dy)?;
+        }
+        match self.entry {
+            Entry::Shadow => write!(f, " colour {:?} composite {}", self.colour, self.composite)?,
+            Entry::Sample => write!(f, " edge {} x {} y {}", self.edge, self.x, self.y)?,
+            Entry::View => write!(f, " edge {}", self.edge)?,
+            Entry::PlatePicture => write!(f, " index {}", self.x as u32)?,
+            _ => (),
+        }
+        write!(f, " scratch {} copy {}", self.scratch, self.copy)?;
+        list(f, "bytes", &self.picture)
+    }
+}

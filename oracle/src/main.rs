@@ -1,0 +1,108 @@
+//! Runs the library beside the Rust. See NOTES.md.
+mod bench;
+mod case;
+mod compare;
+mod distance;
+mod faults;
+mod generate;
+mod inputs;
+mod library;
+mod passes;
+mod random;
+mod rust;
+mod shrink;
+mod smallest;
+mod tally;
+mod vectors;
+
+use case::Case;
+use compare::Examiner;
+use generate::Amount;
+use std::process::ExitCode;
+use std::time::Instant;
+
+/// The failure with the smallest input that shows the same kind of difference.
+fn report(library: &'static library::Library, case: Case, kind: &str) {
+    let examine = |c: &Case| Examiner::new(library).examine(c, true).err();
+    let smallest = shrink::shrink(case, &mut |c| examine(c).is_some_and(|d| d.kind == kind));
+    println!("DIFFERENCE: {kind}\n    smallest input found: {smallest}");
+    if let Some(difference) = examine(&smallest) {
+        println!("    expected {}\n    found    {}", difference.expected, difference.found);
+    }
+}
+
+/// Every case of `generate`, until one differs.
+fn compare_cases(amount: Amount) -> bool {
+    let library = library::under_test();
+    let mut examiner = Examiner::new(library);
+    let mut tally = tally::Tally::default();
+    let mut failed: Option<(Case, String)> = None;
+    generate::all(amount, &mut |case| {
+        if failed.is_some() {
+            return;
+        }
+        match examiner.examine(&case, tally.cases % 8 == 0) {
+            Ok(seen) => tally.note(&case, &seen),
+            Err(difference) => failed = Some((case, difference.kind)),
+        }
+    });
+    tally.print();
+    if let Some((case, kind)) = &failed {
+        report(library, case.clone(), kind);
+    }
+    failed.is_none()
+}
+
+fn compare_passes(amount: Amount) -> bool {
+    let answer = passes::compare(if amount == Amount::Quick { 2 } else { 20 });
+    match &answer {
+        Ok(cases) => println!("level passes {cases}"),
+        Err(input) => println!("DIFFERENCE: level pass and model: {input}"),
+    }
+    answer.is_ok()
+}
+
+fn compare_all(amount: Amount) -> bool {
+    let begun = Instant::now();
+    println!("library: {}; overflow checks: {}", library::under_test().name, rust::checks_overflow());
+    let good = compare_cases(amount) && compare_passes(amount);
+    println!("seconds {:.1}", begun.elapsed().as_secs_f64());
+    good
+}
+
+/// Runs a command that only prints.
+fn shown(print: impl FnOnce()) -> bool {
+    print();
+    true
+}
+
+const COMMANDS: &str = "quick | full | classes | vectors FILE | replay FILE | distance | attain | bench [LARGEST SIDE]";
+
+fn main() -> ExitCode {
+    rust::quiet_attempts();
+    if rust::published().is_none() {
+        println!("{}", compare::SKIPPED);
+    }
+    let arguments: Vec<String> = std::env::args().skip(1).collect();
+    let arguments: Vec<&str> = arguments.iter().map(String::as_str).collect();
+    let good = match arguments[..] {
+        ["quick"] => compare_all(Amount::Quick),
+        ["full"] => compare_all(Amount::Full),
+        ["classes"] => shown(smallest::print),
+        ["vectors", file] => vectors::store(file),
+        ["replay", file] => vectors::replay(library::under_test(), file),
+        ["distance"] => distance::print(60_000),
+        ["attain"] => shown(distance::attain),
+        ["bench"] => shown(|| bench::print(rule::LARGEST_SIDE)),
+        ["bench", largest] => shown(|| bench::print(largest.parse().unwrap_or(rule::LARGEST_SIDE))),
+        _ => {
+            println!("commands: {COMMANDS}");
+            false
+        }
+    };
+    if good {
+        ExitCode::SUCCESS
+    } else {
+        ExitCode::FAILURE
+    }
+}

@@ -1,0 +1,61 @@
+//! Counts of the cases run: per entry, class, mode, n and size band.
+use crate::case::{Case, Entry, ENTRIES};
+use crate::compare::Seen;
+use std::collections::BTreeMap;
+
+#[derive(Default)]
+pub struct Tally {
+    pub cases: u64,
+    /// By row of the printed table, then by entry.
+    counts: BTreeMap<String, BTreeMap<Entry, u64>>,
+}
+
+pub const MODES: [&str; 4] = ["Duplicate", "Wrap", "Mirror", "None"];
+
+fn band(case: &Case) -> &'static str {
+    match (case.w.max(case.h), case.w.min(case.h)) {
+        (1, 1) => "1 by 1",
+        (2..=9, 1..) => "sides to 9",
+        (10..=1100, 1..=5) => "thin, to 1100",
+        (10..=1100, 6..) => "wider, to 300",
+        (4095..=4096, 1..) => "4095 or 4096",
+        _ => "other",
+    }
+}
+
+impl Tally {
+    fn add(&mut self, row: String, entry: Entry) {
+        *self.counts.entry(row).or_default().entry(entry).or_default() += 1;
+    }
+
+    pub fn note(&mut self, case: &Case, seen: &Seen) {
+        self.cases += 1;
+        let entry = case.entry;
+        let answer = if entry == Entry::Sample { 0 } else { seen.answer };
+        self.add(if answer == 0 { "answer done".into() } else { format!("answer {answer:2}") }, entry);
+        for class in &seen.classes {
+            self.add(format!("class {class:?}"), entry);
+        }
+        if !case.is_plate() && entry != Entry::Spread {
+            self.add(format!("size {}", band(case)), entry);
+        }
+        if answer == 0 && (case.blurs() || entry == Entry::Sample) {
+            self.add(format!("mode {}", MODES[case.edge as usize % 4]), entry);
+        }
+        if answer == 0 && (case.blurs() || entry == Entry::Spread) {
+            self.add(format!("n {:2}", case.n), entry);
+            self.add(format!("taps {}", if case.weights.len().is_multiple_of(2) { "even" } else { "odd" }), entry);
+        }
+    }
+
+    pub fn print(&self) {
+        let heads: String = ENTRIES.iter().map(|entry| format!("{:>14}", format!("{entry:?}"))).collect();
+        println!("{:20}{heads}", "");
+        for (row, by_entry) in &self.counts {
+            let cell = |entry| by_entry.get(entry).map_or(String::new(), |count| count.to_string());
+            let cells: String = ENTRIES.iter().map(|entry| format!("{:>14}", cell(entry))).collect();
+            println!("{row:20}{cells}");
+        }
+        println!("cases {}", self.cases);
+    }
+}

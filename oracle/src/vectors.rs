@@ -1,0 +1,198 @@
+//! Stored vectors: cases and their outcomes as decimal numbers, one case a line. NOTES.md has the format.
+use crate::case::{run, work, Case, Entry, Outcome, ENTRIES};
+use crate::compare::Examiner;
+use crate::generate;
+use crate::inputs;
+use crate::library::{Library, RULE};
+use crate::random::Random;
+
+/// How many leading bytes of a work buffer are zero; the others must be as before.
+fn zeroed(buffer: &[u8]) -> usize {
+    buffer.iter().take_while(|byte| **byte == 0).count()
+}
+
+/// What a work buffer holds afterwards.
+fn after(length: usize, zeroed: usize) -> Vec<u8> {
+    (0..length).map(|i| if i < zeroed { 0 } else { work(i) }).collect()
+}
+
+fn write(case: &Case, outcome: &Outcome) -> String {
+    let entry = ENTRIES.iter().position(|e| *e == case.entry).expect("an entry") as u32 + 1;
+    let bits = |v: f32| v.to_bits();
+    let mut head = vec![entry, case.w, case.h, case.n, case.edge];
+    head.extend([case.strength, case.dx, case.dy].map(bits));
+    head.extend(case.colour.map(bits));
+    head.extend([case.composite, case.x as u32, case.y as u32, case.scratch as u32, case.copy as u32]);
+    head.extend([outcome.answer, zeroed(&outcome.scratch) as u32, zeroed(&outcome.copy) as u32]);
+    let mut numbers: Vec<u64> = head.into_iter().map(u64::from).collect();
+    numbers.extend(outcome.numbers);
+    numbers.push(case.weights.len() as u64);
+    numbers.extend(case.weights.iter().map(|w| u64::from(bits(*w))));
+    numbers.push(case.picture.len() as u64);
+    numbers.extend(case.picture.iter().map(|b| u64::from(*b)));
+    let changed = outcome.picture != case.picture;
+    numbers.push(changed.into());
+    numbers.extend(outcome.picture.iter().filter(|_| changed).map(|b| u64::from(*b)));
+    let words: Vec<String> = numbers.iter().map(u64::to_string).collect();
+    words.join(" ") + "\n"
+}
+
+/// The numbers of a line, taken in order.
+struct Numbers<'a>(std::str::SplitWhitespace<'a>);
+
+impl Numbers<'_> {
+    fn wide(&mut self) -> u64 {
+        self.0.next().and_then(|word| word.parse().ok()).expect("a number")
+    }
+
+    fn next(&mut self) -> u32 {
+        self.wide() as u32
+    }
+
+    fn float(&mut self) -> f32 {
+        f32::from_bits(self.next())
+    }
+
+    fn bytes(&mut self, count: u32) -> Vec<u8> {
+        (0..count).map(|_| self.next() as u8).collect()
+    }
+}
+
+fn read(line: &str) -> (Case, Outcome) {
+    let mut from = Numbers(line.split_whitespace());
+    let mut case = Case::new(ENTRIES[from.next() as usize - 1], from.next(), from.next(), Vec::new());
+    (case.n, case.edge) = (from.next(), from.next());
+    (case.strength, case.dx, case.dy) = (from.float(), from.float(), from.float());
+    case.colour = [(); 4].map(|_| from.float());
+    (case.composite, case.x, case.y) = (from.next(), from.next() as i32, from.next() as i32);
+    (case.scratch, case.copy) = (from.next() as usize, from.next() as usize);
+    let (answer, scratch, copy) = (from.next(), from.next() as usize, from.next() as usize);
+    let numbers = [(); 4].map(|_| from.wide());
+    let weights = from.next();
+    case.weights = (0..weights).map(|_| from.float()).collect();
+    let length = from.next();
+    case.picture = from.bytes(length);
+    let changed = from.next() == 1;
+    let picture = if changed { from.bytes(length) } else { case.picture.clone() };
+    let (scratch, copy) = (after(case.scratch, scratch), after(case.copy, copy));
+    (case, Outcome { answer, picture, scratch, copy, numbers, strayed: false })
+}
+
+/// Whatever the entry does not take, at its default.
+fn tidy(case: Case) -> Case {
+    let mut plain = Case { scratch: 0, copy: 0, ..Case::new(case.entry, case.w, case.h, case.picture.clone()) };
+    if case.blurs() || case.entry == Entry::Spread {
+        (plain.weights, plain.n) = (case.weights.clone(), case.n);
+    }
+    if case.blurs() || matches!(case.entry, Entry::View | Entry::Sample) {
+        plain.edge = case.edge;
+    }
+    if case.blurs() {
+        plain.strength = case.strength;
+    }
+    if case.shifts() {
+        (plain.dx, plain.dy) = (case.dx, case.dy);
+    }
+    if case.blurs() || case.entry == Entry::PlateJob {
+        plain.scratch = case.scratch;
+    }
+    match case.entry {
+        Entry::Shadow => Case { copy: case.copy, colour: case.colour, composite: case.composite, ..plain },
+        Entry::Sample | Entry::PlatePicture => Case { x: case.x, y: case.y, ..plain },
+        Entry::Spread => Case { w: 0, h: 0, picture: Vec::new(), ..plain },
+        _ => plain,
+    }
+}
+
+/// A picture of one row of alphas.
+fn alphas(entry: Entry, row: &[u8]) -> Case {
+    Case::new(entry, row.len() as u32, 1, row.iter().flat_map(|a| [0, 0, 0, *a]).collect())
+}
+
+/// Document 01's marked cases, as far as an entry runs them, and the listed differences.
+fn marked() -> Vec<Case> {
+    let quarter = vec![0.25, 0.5, 0.25];
+    let mut cases = Vec::new();
+    for edge in 0..4 {
+        cases.push(Case { weights: vec![1.0], n: 1, edge, ..alphas(Entry::Blur, &[80, 0, 0, 0]) });
+        cases.push(Case { weights: quarter.clone(), edge, ..alphas(Entry::Blur, &[255]) });
+        cases.push(Case { weights: vec![1.0, 1.0], n: 1, edge, ..alphas(Entry::Blur, &[0, 0, 0, 0, 255]) });
+    }
+    for dx in [1.0, -4.0, 0.5, -0.5, 65536.0, 65537.0, 2147483648.0] {
+        cases.push(Case { dx, ..alphas(Entry::Shift, &[1, 2, 3]) });
+    }
+    let over = Case {
+        weights: vec![1.0],
+        colour: [100.0 / 255.0, 0.0, 0.0, 1.0],
+        composite: 1,
+        dx: 1.0,
+        ..alphas(Entry::Shadow, &[255, 128])
+    };
+    cases.extend([Case { composite: 0, ..over.clone() }, over]);
+    for n in [0, 1, 12] {
+        cases.push(Case { weights: quarter.clone(), n, ..alphas(Entry::Spread, &[]) });
+    }
+    let plate = vec![1, 0, 1, 0, 1, 0, 1, 0, 16, 0, 0, 0, 4, 0, 0, 0, 10, 20, 30, 255];
+    cases.extend([Entry::PlateJob, Entry::PlatePicture].map(|entry| Case::new(entry, 0, 0, plate.clone())));
+    cases.push(Case { scratch: 3, ..Case::new(Entry::PlateJob, 0, 0, plate) });
+    cases
+}
+
+/// Some hundreds of small cases of every entry.
+fn cases() -> Vec<Case> {
+    let mut random = Random::new(8);
+    let mut cases = marked();
+    for i in 0..128 {
+        let (edge, n, taps) = (i % 4, i / 4 % 4, random.range(1, 5) as usize);
+        let (w, h) = (random.range(1, 6) as u32, random.range(1, 5) as u32);
+        cases.push(generate::blur(&mut random, w, h, n, edge, taps));
+        if i % 2 == 0 {
+            cases.push(generate::shadow(&mut random, w.min(4), h.min(3), i / 8 % 4, i / 2 % 4, taps));
+        }
+    }
+    for (w, h, taps) in [(1, 1, 33), (7, 1, 33), (1, 9, 32), (2, 3, 16), (17, 1, 3), (1, 17, 2)] {
+        for (edge, n) in [0, 1, 2, 12].into_iter().enumerate() {
+            cases.push(generate::blur(&mut random, w, h, n, edge as u32, taps));
+        }
+    }
+    for (dx, dy) in inputs::OFFSETS.iter().zip(inputs::OFFSETS.iter().rev()) {
+        cases.push(generate::shift(&mut random, 3, 2, *dx, 0.0));
+        cases.push(generate::shift(&mut random, 2, 3, *dx, *dy));
+    }
+    for entry in &ENTRIES[3..] {
+        cases.extend((0..12).map(|_| generate::accepted(&mut random, *entry)));
+    }
+    generate::refusals(&mut random, 2, 2, &mut |case| cases.push(case));
+    cases.retain(|case| case.picture.len() < 150 || case.is_plate() && case.picture.len() < 400);
+    cases.into_iter().map(tidy).collect()
+}
+
+/// Writes the vectors; each was compared with the Rust first.
+pub fn store(file: &str) -> bool {
+    let mut examiner = Examiner::new(&RULE);
+    let cases = cases();
+    let agree = cases.iter().all(|case| examiner.examine(case, true).is_ok());
+    let text: String = cases.iter().map(|case| write(case, &run(&RULE, case))).collect();
+    let back = text.lines().map(read).zip(&cases).all(|((_, outcome), case)| outcome == run(&RULE, case));
+    let written = std::fs::write(file, &text).is_ok();
+    println!("{} cases, {} bytes; agree {agree}, read back {back}, written {written}", cases.len(), text.len());
+    agree && back && written
+}
+
+/// Runs the stored vectors.
+pub fn replay(library: &Library, file: &str) -> bool {
+    let Ok(text) = std::fs::read_to_string(file) else {
+        println!("{file} cannot be read");
+        return false;
+    };
+    let mut failed = 0;
+    for (number, line) in text.lines().enumerate() {
+        let (case, outcome) = read(line);
+        if run(library, &case) != outcome {
+            println!("line {}: {case}", number + 1);
+            failed += 1;
+        }
+    }
+    println!("{} vectors, {failed} failed, by {}", text.lines().count(), library.name);
+    failed == 0
+}
