@@ -70,7 +70,7 @@ pub extern "C" fn corbelrush_spread(weights: &[f32], n: u32, spread: &mut u64) -
     }
 }
 
-// A pixel in one red lowest.
+// A pixel in one word, red lowest.
 fn pack(p: picture::Pixel) -> u32
     ensures { λ r. ⌜ r ≡ packed p ⌝ }
 {

@@ -2,16 +2,17 @@
 use native.Mathlib.Omega.{arith}
 use borrow.Author.Needs.{needs}
 use borrow.Author.Tests.{lt-leb, le-leb}
+use lib.ListN.{length}
 use Rattle.picture.specs.Answer.{settled}
 use Rattle.plate.specs.Job.{plateBlur}
 use Rattle.plate.proofs.Settle.{job-roomy}
-use Rattle.plate_job.specs.Program.{answerTo}
+use Rattle.plate_job.specs.Program.{longestInput, answerTo}
 use Rattle.plate_job.proofs.run.Statement.{statement}
 use Rattle.plate_job.proofs.run.Tie as tie
 
 returns : tie.Need-returns
 unfolding answerTo settled
-returns c = rw (lt-leb _ _ (c .if1 .taken))
+returns c = rw (lt-leb (length (c .before .before .before .args .input .now)) longestInput (omega arith))
 
 plate-job-requires : tie.Need-plate-job-requires
 plate-job-requires c κs = search needs

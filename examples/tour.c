@@ -1,0 +1,59 @@
+/*
+ * A tour of the library: a white square is blurred and moved, checked and sampled, and a call is refused.
+ * Pictures are printed as their alphas, from ' ' for 0 to '@' for 255.
+ */
+#include <stdio.h>
+
+#include "corbelrush.h"
+
+enum { W = 32, H = 10, BYTES = 4 * W * H };
+
+static const float weights[] = {0.25f, 0.5f, 0.25f};
+enum { TAPS = sizeof weights / sizeof *weights };
+
+static uint8_t picture[BYTES], scratch[BYTES];
+
+/* A white square in the upper left. */
+static void draw_square(void)
+{
+    for (int i = 0; i < BYTES; i++) {
+        int x = i / 4 % W, y = i / 4 / W;
+        picture[i] = x >= 2 && x < 10 && y >= 1 && y < 5 ? 255 : 0;
+    }
+}
+
+static void show(const char *what, uint32_t number)
+{
+    printf("%s: %s (%u)\n", what, number == CORBELRUSH_DONE ? "done" : "refused", (unsigned)number);
+    for (int y = 0; y < H; y++) {
+        putchar('|');
+        for (int x = 0; x < W; x++) putchar(" .:-=+*#%@"[picture[4 * (y * W + x) + 3] * 9 / 255]);
+        puts("|");
+    }
+}
+
+int main(void)
+{
+    draw_square();
+    show("a square", CORBELRUSH_DONE);
+    show("blurred, one decimation, nothing beyond the border",
+         corbelrush_blur(picture, BYTES, W, H, scratch, BYTES, weights, TAPS, 1, 1.0f, CORBELRUSH_NONE));
+    show("moved by 17.5 and 4", corbelrush_shift(picture, BYTES, W, H, 17.5f, 4.0f));
+    show("blurred with 13 decimations", corbelrush_blur(picture, BYTES, W, H, scratch, BYTES, weights, TAPS, 13, 1.0f,
+                                                        CORBELRUSH_NONE));
+
+    uint32_t found;
+    uint64_t place, spread;
+    corbelrush_check(picture, BYTES, W, H, &found, &place);
+    printf("premultiplied: %s\n", found ? "no" : "yes");
+    picture[4 * (7 * W + 3)] = 1;
+    corbelrush_check(picture, BYTES, W, H, &found, &place);
+    printf("with red 1 and alpha 0 at 3, 7: %s, at place %u\n", found ? "no" : "yes", (unsigned)place);
+
+    uint32_t pixel = corbelrush_sample(picture, BYTES, W, H, CORBELRUSH_MIRROR, 22, H + 2);
+    printf("3 rows below the lower border, mirrored: alpha %u\n", (unsigned)(pixel >> 24));
+
+    corbelrush_spread(weights, TAPS, 1, &spread);
+    printf("spread of the blur: %.2f square pixels\n", (double)spread / 131072);
+    return 0;
+}

@@ -1,0 +1,147 @@
+/*
+ * Corbelrush: blur with decimation, pixel shift, drop shadow, and what graders ask of a picture, for C and C++.
+ *
+ * A picture is w by h pixels, each side 1 to 4096: bytes r, g, b, a for each pixel, premultiplied, row by row from the
+ * top, exactly 4wh of them. Any byte values are taken.
+ *
+ * Every function but corbelrush_sample returns 0 when it is done, else the number of the first check that refuses: its
+ * checks run in the order of their numbers. A call that is refused changes no byte of any buffer, and sets what it
+ * answers through pointers to 0. Any values of the other arguments are taken; no function fails in another way.
+ *
+ * What C cannot check, and the caller sees to:
+ *   - A buffer has as many bytes (weights: floats, each aligned) as the length beside it says. One of length 0 is not
+ *     touched, and its pointer may be null.
+ *   - No two buffers or numbers of one call overlap, unless the function only reads both.
+ *   - The pointers through which numbers are answered are not null.
+ *   - The floating-point environment is the one that a program starts with: rounding to nearest, no flushing to zero.
+ * The functions keep nothing between calls, allocate nothing and read nothing but their arguments, so threads may call
+ * them at the same time on different buffers. A call uses less than 256 KiB of stack, whatever it is handed.
+ */
+#ifndef CORBELRUSH_H
+#define CORBELRUSH_H
+
+#include <stddef.h>
+#include <stdint.h>
+
+#ifdef __cplusplus
+extern "C" {
+#endif
+
+/* What a function returns. */
+enum {
+    CORBELRUSH_DONE = 0,
+    CORBELRUSH_WRONG_SIDES = 1,   /* w or h is 0 or above 4096 */
+    CORBELRUSH_WRONG_LENGTH = 2,  /* the picture is not exactly 4wh bytes */
+    CORBELRUSH_TOO_SHORT = 3,     /* a work buffer is too short */
+    CORBELRUSH_WRONG_TAPS = 4,    /* the number of weights is 0 or above 33 */
+    CORBELRUSH_WRONG_WEIGHT = 5,  /* a weight is NaN, below 0 or above 1 */
+    CORBELRUSH_TOO_DEEP = 6,      /* n is above 12 */
+    CORBELRUSH_NOT_FINITE = 7,    /* the strength or an offset is NaN or infinite */
+    CORBELRUSH_WRONG_COLOUR = 8,  /* a colour component is NaN, below 0 or above 1 */
+    CORBELRUSH_WRONG_EDGE = 9,    /* the edge number is none of the four below */
+    CORBELRUSH_BROKEN_PLATE = 10, /* the file breaks a rule of plates */
+    CORBELRUSH_OFF_GRID = 11,     /* a weight is no multiple of 1/65536, or the weights do not sum to 1 */
+    CORBELRUSH_NO_PICTURE = 12    /* the plate has no picture of that index */
+};
+
+/* What a picture is beyond its borders. */
+enum {
+    CORBELRUSH_DUPLICATE = 0, /* its nearest pixel */
+    CORBELRUSH_WRAP = 1,      /* itself again */
+    CORBELRUSH_MIRROR = 2,    /* itself, mirrored, the border pixel twice */
+    CORBELRUSH_NONE = 3       /* four zeros */
+};
+
+/*
+ * Blurs a picture: n halvings, the convolution by the weights in rows and in columns, n doublings. Weight j is that of
+ * the pixel j - weights_len / 2 to the right or below; n is 0 to 12. A strength at or below 0 leaves the picture as it is.
+ *
+ * Refusals: 1, 2, 3 (scratch under 4wh bytes), 4, 5, 6, 7 (strength), 9.
+ * Done: picture is blurred, the first 4wh bytes of scratch are 0, the rest of it is as it was.
+ */
+uint32_t corbelrush_blur(uint8_t *picture, size_t picture_len, uint32_t w, uint32_t h, uint8_t *scratch,
+                         size_t scratch_len, const float *weights, size_t weights_len, uint32_t n, float strength,
+                         uint32_t edge);
+
+/*
+ * Moves a picture by dx to the right and dy down, each rounded to the nearest whole number, halves away from zero.
+ * What comes in from outside is four zeros.
+ *
+ * Refusals: 1, 2, 7 (an offset).
+ * Done: picture is moved.
+ */
+uint32_t corbelrush_shift(uint8_t *picture, size_t picture_len, uint32_t w, uint32_t h, float dx, float dy);
+
+/*
+ * Draws a picture's drop shadow: its alpha moved by dx and dy as corbelrush_shift does, blurred as corbelrush_blur does
+ * where the strength is above 0, in the colour red, green, blue, alpha, each 0 to 1 and not premultiplied. With
+ * composite 0 the shadow alone is left, else the picture over its shadow.
+ *
+ * Refusals: 1, 2, 3 (scratch or copy under 4wh bytes), 4, 5, 6, 7 (strength or an offset), 8, 9.
+ * Done: picture is the shadow, or the picture over it; the first 4wh bytes of scratch and of copy are 0, the rest of
+ * both is as it was.
+ */
+uint32_t corbelrush_shadow(uint8_t *picture, size_t picture_len, uint32_t w, uint32_t h, uint8_t *scratch,
+                           size_t scratch_len, uint8_t *copy, size_t copy_len, const float *weights,
+                           size_t weights_len, uint32_t n, uint32_t edge, float dx, float dy, float strength,
+                           float red, float green, float blue, float alpha, uint32_t composite);
+
+/*
+ * Looks for the first pixel of which r, g or b exceeds a, rows downward, each left to right. *found is 1 and *place its
+ * place y * w + x, or both are 0 where there is none.
+ *
+ * Refusals: 1, 2; *found and *place are 0.
+ * The picture is only read.
+ */
+uint32_t corbelrush_check(const uint8_t *picture, size_t picture_len, uint32_t w, uint32_t h, uint32_t *found,
+                          uint64_t *place);
+
+/*
+ * The number that a view of a picture gets: 0 where corbelrush_sample reads it.
+ *
+ * Refusals: 1, 2, 9.
+ * The picture is only read.
+ */
+uint32_t corbelrush_view(const uint8_t *picture, size_t picture_len, uint32_t w, uint32_t h, uint32_t edge);
+
+/*
+ * The pixel at any column x and row y, each extended by the edge rule: r | g << 8 | b << 16 | a << 24.
+ * A view that corbelrush_view refuses has 0 everywhere.
+ * The picture is only read.
+ */
+uint32_t corbelrush_sample(const uint8_t *picture, size_t picture_len, uint32_t w, uint32_t h, uint32_t edge, int32_t x,
+                           int32_t y);
+
+/*
+ * How far a blur with these weights and n decimations spreads a pixel: *spread is the variance in units of 1/131072 of
+ * a square pixel.
+ *
+ * Refusals: 4, 6, 11 (a weight that is NaN, infinite, below 0 or above 1 too); *spread is 0.
+ * The weights are only read.
+ */
+uint32_t corbelrush_spread(const float *weights, size_t weights_len, uint32_t n, uint64_t *spread);
+
+/*
+ * Where a picture of a plate file lies, by its index counted from 0: *length bytes from plate + *offset on, *w by *h
+ * pixels.
+ *
+ * Refusals: 10, 12; *w, *h, *offset and *length are 0.
+ * The plate is only read.
+ */
+uint32_t corbelrush_plate_picture(const uint8_t *plate, size_t plate_len, uint32_t index, uint32_t *w, uint32_t *h,
+                                  uint64_t *offset, uint64_t *length);
+
+/*
+ * Blurs every picture of a plate file where it lies, with weights 1/4, 1/2, 1/4, n = 1, Duplicate and strength 1.
+ *
+ * Refusals: 10, 3 (scratch shorter than the plate's longest picture).
+ * Done: each picture of plate is blurred and its table is as it was; as many first bytes of scratch as the longest
+ * picture has are 0, the rest of it is as it was.
+ */
+uint32_t corbelrush_plate_job(uint8_t *plate, size_t plate_len, uint8_t *scratch, size_t scratch_len);
+
+#ifdef __cplusplus
+}
+#endif
+
+#endif

@@ -1,0 +1,52 @@
+/* How much stack each call uses: it runs in a thread whose stack is painted before, and the paint that is left is counted. */
+#include <pthread.h>
+#include <stdio.h>
+#include <string.h>
+
+#include "corbelrush.h"
+
+enum { W = 4096, H = 64, BYTES = 4 * W * H, STACK = 4 << 20, PAINT = 0xA5 };
+
+static uint8_t stack[STACK] __attribute__((aligned(4096)));
+static uint8_t picture[BYTES], scratch[BYTES];
+static float weights[33];
+
+static void *nothing(void *arg) { return arg; }
+
+static void *blur(void *arg)
+{
+    for (uint32_t edge = 0; edge < 4; edge++)
+        corbelrush_blur(picture, BYTES, W, H, scratch, BYTES, weights, 33, *(uint32_t *)arg, 1.0f, edge);
+    return arg;
+}
+
+static void *shift(void *arg)
+{
+    corbelrush_shift(picture, BYTES, W, H, 3.0f, -5.0f);
+    return arg;
+}
+
+static size_t used(void *(*run)(void *), void *arg)
+{
+    pthread_attr_t attributes;
+    pthread_t thread;
+    size_t left = 0;
+    memset(stack, PAINT, STACK);
+    pthread_attr_init(&attributes);
+    pthread_attr_setstack(&attributes, stack, STACK);
+    pthread_create(&thread, &attributes, run, arg);
+    pthread_join(thread, NULL);
+    while (left < STACK && stack[left] == PAINT) left++;
+    return STACK - left;
+}
+
+int main(void)
+{
+    static uint32_t depths[] = {0, 1, 12};
+    size_t thread = used(nothing, NULL);
+    for (int i = 0; i < 33; i++) weights[i] = 1.0f / 64;
+    for (int i = 0; i < 3; i++)
+        printf("blur, n = %u: %zu bytes\n", (unsigned)depths[i], used(blur, &depths[i]) - thread);
+    printf("shift: %zu bytes\n", used(shift, NULL) - thread);
+    return 0;
+}
