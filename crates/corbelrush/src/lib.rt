@@ -1,3 +1,4 @@
 // The face: what C and C++ link. Each function is one call of its entry; include/corbelrush.h declares them.
 pub mod filters;
 pub mod grades;
+pub mod plates;

@@ -1,0 +1,3 @@
+-- Laws of the answers that C gets.
+pub mod Sides
+pub mod Determined

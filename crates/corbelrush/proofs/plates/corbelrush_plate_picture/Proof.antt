@@ -1,0 +1,71 @@
+-- Refused, and all is 0; or found, and the pointers hold the picture's sides and stretch.
+use mathlib.Core.Path.{_≡_}
+use native.Mathlib.Omega.{arith}
+use Rattle.picture.specs.Answer.{answered}
+use Rattle.plate.specs.Lookup.{lookedUp}
+use Rattle.corbelrush.specs.Words.{pictureIn}
+use Rattle.corbelrush.proofs.Sides.{sides-fit}
+use borrow.Author.Needs.{needs}
+use Rattle.corbelrush.proofs.plates.corbelrush_plate_picture.Statement.{statement}
+use Rattle.corbelrush.proofs.plates.corbelrush_plate_picture.Tie as tie
+
+find-picture-requires : tie.Need-find-picture-requires
+find-picture-requires c κs = search needs
+
+enum-told : tie.Need-enum-told
+enum-told c = search needs
+
+number-requires : tie.Need-number-requires
+number-requires c κs = search needs
+
+enum-known-found : tie.Need-enum-known-found
+enum-known-found c = search needs
+
+level-zero-requires : tie.Need-level-zero-requires
+level-zero-requires c κs = search needs
+
+width-requires : tie.Need-width-requires
+width-requires c κs = search needs
+
+-- what was found
+found : (c : tie.After-level-zero) →
+    let level = c .level-zero .result in
+    let stretch = c .before .before .found .given .0 .1 .0 in
+    let a = c .before .before .before .before .before .before .args in
+    answered 0 (pictureIn (level .w) (level .h) (stretch .offset) (stretch .length)) ≡ lookedUp (a .plate .now) (a .index)
+found c =
+    let f = c .before .before in
+    rw (c .level-zero .ensures) (rw (f .found .given .1) at (f .before .before .find-picture .ensures))
+
+cast-w : tie.Need-cast-w
+cast-w c = omega (arith, c .width .ensures, sides-fit _ _ (found (c .before)) .0)
+
+height-requires : tie.Need-height-requires
+height-requires c κs = search needs
+
+cast-h : tie.Need-cast-h
+cast-h c = omega (arith, c .height .ensures, sides-fit _ _ (found (c .before .before)) .1)
+
+returns : tie.Need-returns
+returns c =
+    let e = c .before .before .before in
+    rw (c .number .ensures, c .before .enum-told .given .1) (rw (c .before .enum-told .given .1) at (e .find-picture .ensures))
+
+returns-2 : tie.Need-returns-2
+returns-2 c = rw (c .before .width .ensures, c .height .ensures) (found (c .before .before))
+
+pub corbelrush-plate-picture-spec : {M : Type 1} → statement M
+corbelrush-plate-picture-spec =
+    tie.close
+    (tie.spec
+    find-picture-requires
+    enum-told
+    number-requires
+    enum-known-found
+    level-zero-requires
+    width-requires
+    cast-w
+    height-requires
+    cast-h
+    returns
+    returns-2)
