@@ -1,11 +1,11 @@
 // Check, view and spread for C: what an entry answers beside its number goes through the pointers.
 use grading::premultiplied::Checked;
-use grading::spread::Reported;
+use spread::Reported;
 ghost use mathlib.Core.Path.{_≡_};
 ghost use Rattle.picture.specs.Answer.{answered};
 ghost use Rattle.grading.specs.Premultiplied.{checked};
 ghost use Rattle.grading.specs.Sampling.{viewRefusal, sampled};
-ghost use Rattle.grading.specs.Spread.{reported};
+ghost use Rattle.spread.specs.Spread.{reported};
 ghost use Rattle.corbelrush.specs.Words.{reworded, pointers, findingIn, packed};
 
 // The first pixel of which a channel exceeds alpha: whether there is one, and its place.
@@ -61,7 +61,7 @@ pub extern "C" fn corbelrush_spread(weights: &[f32], n: u32, spread: &mut u64) -
     ensures { λ r. ⌜ answered r (now (spread .exit)) ≡ reported (now (weights .entry)) n ⌝ }
 {
     *spread = 0;
-    match grading::spread::report(weights, n) {
+    match spread::report(weights, n) {
         Reported::Refused(r) => r.number(),
         Reported::Found(s) => {
             *spread = s.units;

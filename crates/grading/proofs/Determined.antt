@@ -16,8 +16,7 @@ use Rattle.picture.specs.declared.Pixel.{Pixel}
 use Rattle.grading.specs.Sampling.{seen}
 use Rattle.grading.specs.declared.premultiplied.Checked.{Checked}
 use Rattle.grading.specs.declared.sampling.View.{View}
-use Rattle.grading.specs.declared.spread.Reported.{Reported}
-use Rattle.grading.proofs.Injective.{finding-injective, report-injective}
+use Rattle.grading.proofs.Injective.{finding-injective}
 use Rattle.grading.proofs.premultiplied.check.Reads as check
 use Rattle.grading.proofs.premultiplied.check.Kinds as check-kinds
 use Rattle.grading.proofs.sampling.view_refusal.Reads as view-refusal
@@ -26,8 +25,6 @@ use Rattle.grading.proofs.sampling.sample_at.Reads as sample-at
 use Rattle.grading.proofs.sampling.sample_at.Kinds as sample-at-kinds
 use Rattle.grading.proofs.sampling.sample as sample
 use Rattle.grading.proofs.sampling.view_of as view-of
-use Rattle.grading.proofs.spread.report.Reads as report
-use Rattle.grading.proofs.spread.report.Kinds as report-kinds
 
 pub check-determined : (κs : Lfts 1) (a : Dens κs check-kinds.ps) (r₁ r₂ : Checked) (x₁ x₂ : AtExit (endedOf 1 check-kinds.ps check-kinds.r) κs) →
     check.Post κs a r₁ x₁ → check.Post κs a r₂ x₂ → r₁ ≡ r₂
@@ -40,10 +37,6 @@ view-refusal-determined κs a r₁ r₂ x₁ x₂ h₁ h₂ = h₁ ∙ sym h₂
 pub sample-at-determined : (κs : Lfts 1) (a : Dens κs sample-at-kinds.ps) (r₁ r₂ : Pixel) (x₁ x₂ : AtExit (endedOf 1 sample-at-kinds.ps sample-at-kinds.r) κs) →
     sample-at.Post κs a r₁ x₁ → sample-at.Post κs a r₂ x₂ → r₁ ≡ r₂
 sample-at-determined κs a r₁ r₂ x₁ x₂ h₁ h₂ = h₁ ∙ sym h₂
-
-pub report-determined : (κs : Lfts 1) (a : Dens κs report-kinds.ps) (r₁ r₂ : Reported) (x₁ x₂ : AtExit (endedOf 1 report-kinds.ps report-kinds.r) κs) →
-    report.Post κs a r₁ x₁ → report.Post κs a r₂ x₂ → r₁ ≡ r₂
-report-determined κs a r₁ r₂ x₁ x₂ h₁ h₂ = report-injective r₁ r₂ (h₁ ∙ sym h₂)
 
 -- of the two that are walked by hand, the contract is read in the logic itself
 module _ {M : Type 1} (𝓤 : URA M) where

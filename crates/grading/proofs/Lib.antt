@@ -4,8 +4,5 @@ pub mod Whole
 pub mod Accepted
 pub mod Viewed
 pub mod Places
-pub mod Moments
-pub mod Scales
 pub mod Injective
 pub mod Determined
-pub mod Examples

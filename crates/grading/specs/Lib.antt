@@ -1,5 +1,4 @@
--- The definitions that contracts cite of the check, the view and the spread report.
+-- The definitions that contracts cite of the check and the view.
 pub mod Pixels
 pub mod Premultiplied
 pub mod Sampling
-pub mod Spread

@@ -1,6 +1,4 @@
-// What graders ask of a picture or of a kernel: the premultiplied check, a sampling view, the spread
-// of a blur.
+// What graders ask of a picture: the premultiplied check and a sampling view.
 mod pixels;
 pub mod premultiplied;
 pub mod sampling;
-pub mod spread;

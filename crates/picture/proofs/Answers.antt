@@ -1,10 +1,14 @@
 -- What a call comes to: refused, or done; and a call that answers 0 was done.
-use mathlib.Core.Path.{_≡_, refl, sym, ap}
+use mathlib.Core.Path.{_≡_, _∙_, refl, sym, ap}
 use mathlib.Core.Bool.{Bool, true, false, cond}
 use Prim.Native.Nat.{ℕ}
 use lib.Dec.{eqb}
 use borrow.Author.Tests.{eqb-false, eq-eqb, ne-eqb}
 use Rattle.picture.specs.Answer.{Answer, answered, settled}
+
+-- what can be read back from its answer is settled by it
+pub undone : {A B : Type 0} (f : A → B) (back : B → A) → ((a : A) → back (f a) ≡ a) → (a b : A) → f a ≡ f b → a ≡ b
+undone f back h a b e = sym (h a) ∙ ap back e ∙ h b
 
 module _ {A : Type 0} (refusal : ℕ) (before after : A) where
   pub refused : (refusal ≡ 0 → ⊥) → answered refusal before ≡ settled refusal before after

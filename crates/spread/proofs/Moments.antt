@@ -14,7 +14,7 @@ use borrow.Author.Tests.{eqb-true, ltb-false, not-false}
 use Rattle.picture.specs.Refusal.{maxTaps, zeroOrAbove, wrongTaps}
 use Rattle.picture.proofs.Tests.{neither}
 use Rattle.binary32.specs.Grid.{numerator, allOnGrid, numerators, sum, offGrid}
-use Rattle.grading.specs.Spread.{distance, moment, momentOf, GridKernel}
+use Rattle.spread.specs.Spread.{distance, moment, momentOf, GridKernel}
 
 -- tap j, and those after it
 pub moment-step : (c j : ℕ) (ws : List Float) → j < length ws →

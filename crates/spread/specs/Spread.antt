@@ -8,10 +8,10 @@ use lib.ListN.{length}
 use Rattle.picture.specs.Refusal.{Check, check, firstOf, maxTaps, wrongTaps, tooDeep}
 use Rattle.picture.specs.Answer.{Answer, answered, settled}
 use Rattle.binary32.specs.Grid.{numerator, offGrid}
-use Rattle.grading.specs.declared.spread.SpreadRefusal.{SpreadRefusal}
-use Rattle.grading.specs.declared.spread.SpreadRefusal.the-variants.{WrongTaps, TooDeep, OffGrid}
-use Rattle.grading.specs.declared.spread.Reported.{Reported}
-use Rattle.grading.specs.declared.spread.Reported.the-variants.{Refused, Found}
+use Rattle.spread.specs.declared.SpreadRefusal.{SpreadRefusal}
+use Rattle.spread.specs.declared.SpreadRefusal.the-variants.{WrongTaps, TooDeep, OffGrid}
+use Rattle.spread.specs.declared.Reported.{Reported}
+use Rattle.spread.specs.declared.Reported.the-variants.{Refused, Found}
 
 -- how far tap j is from tap c
 abbrev pub distance : ℕ → ℕ → ℕ

@@ -6,11 +6,11 @@ use lib.ListN.{length}
 use Rattle.picture.specs.Refusal.{firstOf, maxDecimations, wrongTaps, tooDeep}
 use Rattle.picture.specs.Answer.{settled}
 use Rattle.binary32.specs.Grid.{offGrid}
-use Rattle.grading.specs.Spread.{reported}
-use Rattle.grading.proofs.Moments.{kernel}
+use Rattle.spread.specs.Spread.{reported}
+use Rattle.spread.proofs.Moments.{kernel}
 use borrow.Author.Needs.{needs}
-use Rattle.grading.proofs.spread.report.Statement.{statement}
-use Rattle.grading.proofs.spread.report.Tie as tie
+use Rattle.spread.proofs.report.Statement.{statement}
+use Rattle.spread.proofs.report.Tie as tie
 
 wrong-taps-requires : tie.Need-wrong-taps-requires
 wrong-taps-requires c κs = search needs

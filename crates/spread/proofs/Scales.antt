@@ -5,7 +5,7 @@ use native.Mathlib.Nat.{pow-suc, pow-le-pow-right, mod-eq-of-lt, mul-le-mul}
 use native.Mathlib.Omega.{arith}
 use lib.Dec.{lit<}
 use Rattle.picture.specs.Refusal.{maxDecimations}
-use Rattle.grading.specs.Spread.{decimationTerm}
+use Rattle.spread.specs.Spread.{decimationTerm}
 
 four-is : (n : ℕ) → 2 ^ (2 * n) ≡ 4 ^ n
 four-is zero = refl

@@ -4,10 +4,10 @@ use Prim.Native.Nat.{_+_, _*_, _-_, _/_, _≤_}
 use native.Mathlib.Nat.{add-zero}
 use native.Mathlib.Omega.{arith}
 use lib.ListN.{length, drop, drop-of-length-le}
-use Rattle.grading.specs.Spread.{moment, momentOf}
-use Rattle.grading.proofs.Moments.{moment-step, near, taps-fit, moment-fits}
-use Rattle.grading.proofs.spread.moment.Statement.{statement}
-use Rattle.grading.proofs.spread.moment.Tie as tie
+use Rattle.spread.specs.Spread.{moment, momentOf}
+use Rattle.spread.proofs.Moments.{moment-step, near, taps-fit, moment-fits}
+use Rattle.spread.proofs.moment.Statement.{statement}
+use Rattle.spread.proofs.moment.Tie as tie
 
 abbrev Inv-loop : tie.InvT-loop
 Inv-loop weights middle sum₀ j₀ sum j = (j ≤ length weights) × (sum + moment middle j (drop j weights) ≡ momentOf weights)

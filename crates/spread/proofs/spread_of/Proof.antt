@@ -2,11 +2,11 @@
 use Prim.Native.Nat.{_*_, _≤_}
 use native.Mathlib.Omega.{arith}
 use borrow.Author.Needs.{needs}
-use Rattle.grading.specs.Spread.{spreadOf}
-use Rattle.grading.proofs.Moments.{moment-fits}
-use Rattle.grading.proofs.Scales.{scaled-fits, term-fits}
-use Rattle.grading.proofs.spread.spread_of.Statement.{statement}
-use Rattle.grading.proofs.spread.spread_of.Tie as tie
+use Rattle.spread.specs.Spread.{spreadOf}
+use Rattle.spread.proofs.Moments.{moment-fits}
+use Rattle.spread.proofs.Scales.{scaled-fits, term-fits}
+use Rattle.spread.proofs.spread_of.Statement.{statement}
+use Rattle.spread.proofs.spread_of.Tie as tie
 
 scale-requires : tie.Need-scale-requires
 scale-requires c κs = search needs

@@ -3,8 +3,8 @@ use mathlib.Core.Path.{_∙_, sym}
 use borrow.Author.Needs.{needs}
 use Rattle.binary32.specs.Grid.{numerator}
 use Rattle.binary32.proofs.Grid.{answered-on, answered-off}
-use Rattle.grading.proofs.spread.numerator.Statement.{statement}
-use Rattle.grading.proofs.spread.numerator.Tie as tie
+use Rattle.spread.proofs.numerator.Statement.{statement}
+use Rattle.spread.proofs.numerator.Tie as tie
 
 numerator-of-requires : tie.Need-numerator-of-requires
 numerator-of-requires c κs = search needs

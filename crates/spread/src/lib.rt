@@ -3,7 +3,7 @@ ghost use mathlib.Core.Path.{_≡_};
 ghost use Prim.Native.Nat.{_*_, _^_, _≤_};
 ghost use Rattle.picture.specs.Refusal.{maxDecimations};
 ghost use Rattle.binary32.specs.Grid.{numerator};
-ghost use Rattle.grading.specs.Spread.{numberOf, distance, GridKernel, momentOf, decimationTerm, spreadOf, report, reported};
+ghost use Rattle.spread.specs.Spread.{numberOf, distance, GridKernel, momentOf, decimationTerm, spreadOf, report, reported};
 use binary32::GridWeight;
 
 // How many units a square full-size pixel has.

@@ -1,9 +1,9 @@
 -- No product wraps at any n, and it is the definition's.
 use mathlib.Core.Path.{refl}
 use borrow.Author.Needs.{needs}
-use Rattle.grading.specs.Spread.{decimationTerm}
-use Rattle.grading.proofs.spread.decimation_term.Statement.{statement}
-use Rattle.grading.proofs.spread.decimation_term.Tie as tie
+use Rattle.spread.specs.Spread.{decimationTerm}
+use Rattle.spread.proofs.decimation_term.Statement.{statement}
+use Rattle.spread.proofs.decimation_term.Tie as tie
 
 mul-result : tie.Need-mul-result
 mul-result c = search needs

@@ -1,9 +1,9 @@
 -- A shift by 2n is a product with 4^n.
 use native.Mathlib.Omega.{arith}
 use borrow.Author.Needs.{needs}
-use Rattle.grading.proofs.Scales.{depth-fits, shifted}
-use Rattle.grading.proofs.spread.scale.Statement.{statement}
-use Rattle.grading.proofs.spread.scale.Tie as tie
+use Rattle.spread.proofs.Scales.{depth-fits, shifted}
+use Rattle.spread.proofs.scale.Statement.{statement}
+use Rattle.spread.proofs.scale.Tie as tie
 
 mul-result : tie.Need-mul-result
 mul-result c = omega (arith, c .pre, depth-fits)

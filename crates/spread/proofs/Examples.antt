@@ -6,7 +6,7 @@ use Rattle.picture.specs.Answer.{answered, settled}
 use Rattle.picture.specs.Refusal.{firstOf, zeroOrAbove, maxTaps, wrongTaps, maxDecimations, tooDeep}
 use Rattle.binary32.specs.Ranges.{outsideUnit, anyOf}
 use Rattle.binary32.specs.Grid.{onGrid, numerator, allOnGrid, sum, offGrid}
-use Rattle.grading.specs.Spread.{moment, momentOf, decimationTerm, spreadOf, reported}
+use Rattle.spread.specs.Spread.{moment, momentOf, decimationTerm, spreadOf, reported}
 
 -- 1/4, 1/2, 1, 5/4, -1/4, -0
 abbrev quarter : Float

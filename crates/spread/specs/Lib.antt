@@ -1,0 +1,2 @@
+-- The definitions that contracts cite of the spread report.
+pub mod Spread
