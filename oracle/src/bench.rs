@@ -1,6 +1,7 @@
 //! Library and Rust side by side: same input, interleaved, best of several rounds.
 //! Inside the library's time: clearing the work buffers. Inside the Rust's: the shadow's clone.
 //! Outside both: putting the input back, the first allocation of work buffers.
+use crate::bars;
 use crate::case::{call, Case, Entry, Part};
 use crate::inputs::bell;
 use crate::library::{under_test, Library};
@@ -29,7 +30,9 @@ fn list(w: u32, h: u32) -> Vec<(String, Case)> {
         }
     }
     let moved = Case { dx: 3.0, dy: -2.0, weights: bell(13), n: 1, colour: [0.2, 0.4, 0.6, 0.8], ..plain };
-    lines.push(("shift".into(), Case { entry: Entry::Shift, ..moved.clone() }));
+    let shift = Case { entry: Entry::Shift, ..moved.clone() };
+    lines.push(("shift by half".into(), Case { dx: (w / 2) as f32, dy: (h / 2) as f32, ..shift.clone() }));
+    lines.push(("shift".into(), shift));
     lines.push(("shadow alone".into(), Case { entry: Entry::Shadow, ..moved.clone() }));
     lines.push(("shadow with original".into(), Case { entry: Entry::Shadow, composite: 1, ..moved }));
     lines
@@ -100,9 +103,9 @@ impl Theirs {
 }
 
 /// What one line measured, in nanoseconds a pixel.
-struct Measured {
-    ours: f64,
-    theirs: Option<f64>,
+pub struct Measured {
+    pub ours: f64,
+    pub theirs: Option<f64>,
     note: &'static str,
 }
 
@@ -146,7 +149,7 @@ const SIZES: [(u32, u32); 9] =
     [(16, 16), (64, 64), (256, 256), (1024, 1024), (4096, 1), (1, 4096), (4096, 16), (16, 4096), (4096, 4096)];
 
 /// A line's name, its size and what it measured.
-type Row = (String, (u32, u32), Measured);
+pub type Row = (String, (u32, u32), Measured);
 
 /// Nanoseconds a pixel against size: ours, then the Rust's.
 fn print_sizes(rows: &[Row]) {
@@ -187,4 +190,5 @@ pub fn print(largest: u32) {
     }
     print_sizes(&rows);
     print_ratios(&rows);
+    bars::print(&rows);
 }

@@ -1,4 +1,5 @@
 //! Runs the library beside the Rust. See NOTES.md.
+mod bars;
 mod bench;
 mod case;
 mod compare;

@@ -1,0 +1,54 @@
+//! The bars that the library is held to, each with the worst that a benchmark saw.
+use crate::bench::Row;
+use crate::tally::MODES;
+
+fn square(size: (u32, u32), sides: &[u32]) -> bool {
+    size.0 == size.1 && sides.contains(&size.0)
+}
+
+/// The ratios of the lines that are kept.
+fn ratios(rows: &[Row], keep: impl Fn(&str, (u32, u32)) -> bool) -> Vec<f64> {
+    let kept = rows.iter().filter(|(name, size, _)| keep(name, *size));
+    kept.filter_map(|(_, _, m)| m.theirs.map(|theirs| m.ours / theirs)).collect()
+}
+
+/// How much more a pixel of each line costs at 4096 square than at 256; of our time.
+fn growth(rows: &[Row]) -> Vec<f64> {
+    let at = |name: &str, side| rows.iter().find(|(n, s, _)| n == name && square(*s, &[side])).map(|(_, _, m)| m.ours);
+    rows.iter().filter_map(|(name, ..)| Some(at(name, 4096)? / at(name, 256)?)).collect()
+}
+
+/// How much more the dearest edge mode costs than the cheapest, for each kernel from 256 square on.
+fn modes_apart(rows: &[Row]) -> Vec<f64> {
+    let first = rows.iter().filter(|(name, size, _)| name.ends_with(MODES[0]) && square(*size, &[256, 1024, 4096]));
+    let apart = |(name, size, _): &Row| {
+        let stem = name.trim_end_matches(MODES[0]);
+        let times = rows.iter().filter(|(n, s, _)| n.starts_with(stem) && s == size).map(|(_, _, m)| m.ours);
+        times.clone().fold(0.0, f64::max) / times.fold(f64::MAX, f64::min)
+    };
+    first.map(apart).collect()
+}
+
+pub fn print(rows: &[Row]) {
+    let small = |size| square(size, &[16, 64]);
+    let flat = ratios(rows, |name, size| name.starts_with("blur n 0") && square(size, &[1024, 4096]));
+    let deep = ratios(rows, |name, size| name.starts_with("blur n 2") && square(size, &[4096]));
+    let bars = [
+        ("n = 0 at 1024 and 4096 square", 0.25, flat),
+        ("n = 2 at 4096 square", 0.15, deep),
+        ("shift", 0.50, ratios(rows, |name, _| name.starts_with("shift"))),
+        (
+            "shadow but for 16 and 64 square",
+            0.30,
+            ratios(rows, |name, size| name.starts_with("shadow") && !small(size)),
+        ),
+        ("everything at 16 and 64 square", 0.60, ratios(rows, |_, size| small(size))),
+        ("a pixel at 4096 square against 256", 1.2, growth(rows)),
+        ("the dearest edge mode against the cheapest", 1.1, modes_apart(rows)),
+    ];
+    for (what, bar, seen) in bars {
+        if let Some(worst) = seen.into_iter().max_by(f64::total_cmp) {
+            println!("{what}: {worst:.3}, bar {bar}: {}", if worst <= bar { "met" } else { "MISSED" });
+        }
+    }
+}
