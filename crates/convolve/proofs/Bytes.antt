@@ -20,7 +20,8 @@ use Rattle.passes.specs.Passes.{convolve}
 use Rattle.passes.specs.Written.{lane}
 use Rattle.lanes.specs.Lanes.{widened, laneSum}
 use Rattle.lanes.proofs.Taps.{weighted-taps}
-use Rattle.convolve.specs.Blocks.{blockValue, lineByte}
+use Rattle.blocks.specs.Blocks.{blockValue}
+use Rattle.convolve.specs.Bytes.{lineByte}
 use Rattle.convolve.specs.Room.{Kernel}
 use Rattle.convolve.proofs.Taps.{few-taps, most-taps}
 

@@ -1,3 +1,3 @@
 -- The definitions that contracts cite of a convolution in blocks.
-pub mod Blocks
+pub mod Bytes
 pub mod Room

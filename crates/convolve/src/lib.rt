@@ -1,18 +1,14 @@
-// The convolution of lines. Bytes are made floats once for a block of elements, summed there lane by lane
-// under each tap, and rounded. Edges are worked out as a block is filled, once for each element.
+// The convolution of lines: a block of elements is filled with their values, summed there lane by lane under
+// each tap, and rounded.
 ghost use mathlib.Core.Path.{_≡_};
 ghost use Prim.Native.Nat.{ℕ, _+_, _-_, _*_, _/_, _≤_, _<_, min};
-ghost use lib.Ieee.{nan};
 ghost use lib.ListN.{length, getD};
 ghost use Rattle.picture.specs.Sizes.{levelBytes, Sized};
-ghost use Rattle.edges.specs.Edges.{sample, Reach};
 ghost use Rattle.passes.specs.Passes.{convolve};
 ghost use Rattle.passes.specs.Levels.{levelPass};
-ghost use Rattle.passes.specs.Written.{lane, passed};
-ghost use Rattle.lanes.specs.Lanes.{Span, widened};
-ghost use Rattle.convolve.specs.Blocks.{blockValue, lineByte, Made, Convolved, Elements, Strip};
+ghost use Rattle.passes.specs.Written.{passed};
+ghost use Rattle.convolve.specs.Bytes.{lineByte, Convolved, Elements, Strip};
 ghost use Rattle.convolve.specs.Room.{Kernel, Source, Lines, whole, lanes, sumRoom, Buffers};
-use edges::At;
 use picture::EdgeMode;
 use picture::LevelSize;
 
@@ -25,120 +21,6 @@ const LANES: usize = 128;
 const SUMS: usize = 1024;
 
 const LINE: usize = (SUMS / WHOLE + picture::MAX_TAPS - 1) * LANES;
-
-fn least(a: usize, b: usize) -> usize
-    ensures { λ r. ⌜ r ≡ min a b ⌝ }
-{
-    if a < b { a } else { b }
-}
-
-// a - b, or 0 where b is more.
-fn excess(a: usize, b: usize) -> usize
-    ensures { λ r. ⌜ r ≡ a - b ⌝ }
-{
-    if b < a { a - b } else { 0 }
-}
-
-// n lanes, from lane `from` on, of the element that c - d reads: values from a on, and zeros where there is none.
-fn fill_element(
-    line: &mut [f32],
-    a: usize,
-    n: usize,
-    src: &[u8],
-    start: usize,
-    len: usize,
-    stride: usize,
-    from: usize,
-    c: usize,
-    d: usize,
-    mode: EdgeMode,
-)
-    requires { ⌜ a + n ≤ length (now line) ⌝ ∗ ⌜ from + n ≤ stride ⌝ ∗ ⌜ start + len * stride ≤ length (now src) ⌝ ∗ ⌜ Reach len c d ⌝ }
-    ensures { λ _. ⌜ Span nan (now (line .entry)) (now (line .exit)) a (a + n) (λ t. widened (sample mode len (lane (now (src .entry)) start stride (from + (t - a))) c d)) ⌝ }
-{
-    match edges::extend(c, d, len, mode) {
-        At::Inside(i) => lanes::widen(line, a, n, src, start + i * stride + from),
-        At::Outside => lanes::clear(line, a, n),
-    }
-}
-
-// Elements `first` up to `last` of a block, n lanes of each.
-fn fill(
-    line: &mut [f32],
-    n: usize,
-    first: usize,
-    last: usize,
-    src: &[u8],
-    start: usize,
-    len: usize,
-    stride: usize,
-    from: usize,
-    x: usize,
-    d: usize,
-    mode: EdgeMode,
-)
-    requires { ⌜ (first ≤ last) × (last * n ≤ length (now line)) ⌝ ∗ ⌜ from + n ≤ stride ⌝ ∗ ⌜ start + len * stride ≤ length (now src) ⌝ ∗ ⌜ Reach len (x + last) d ⌝ }
-    ensures { λ _. ⌜ Made nan (blockValue mode (now (src .entry)) start len stride from n x d) (λ t. (first * n ≤ t) × (t < last * n)) (now (line .entry)) (now (line .exit)) ⌝ }
-{
-    let mut e = first;
-    while e < last {
-        fill_element(
-            line,
-            e * n,
-            n,
-            src,
-            start,
-            len,
-            stride,
-            from,
-            x + e,
-            d,
-            mode,
-        );
-        e += 1;
-    }
-}
-
-// A block of `count` whole elements, of which those inside lie in one run.
-fn fill_whole(
-    line: &mut [f32],
-    count: usize,
-    src: &[u8],
-    start: usize,
-    len: usize,
-    stride: usize,
-    x: usize,
-    d: usize,
-    mode: EdgeMode,
-)
-    requires { ⌜ (x < len) × (d < count) × (0 < stride) ⌝ ∗ ⌜ count * stride ≤ length (now line) ⌝ ∗ ⌜ start + len * stride ≤ length (now src) ⌝ ∗ ⌜ Reach len (x + count) d ⌝ }
-    ensures { λ _. ⌜ Made nan (blockValue mode (now (src .entry)) start len stride 0 stride x d) (λ t. t < count * stride) (now (line .entry)) (now (line .exit)) ⌝ }
-{
-    let low = excess(d, x);
-    let high = least(count, len + d - x);
-    fill(line, stride, 0, low, src, start, len, stride, 0, x, d, mode);
-    lanes::widen(
-        line,
-        low * stride,
-        (high - low) * stride,
-        src,
-        start + (x + low - d) * stride,
-    );
-    fill(
-        line,
-        stride,
-        high,
-        count,
-        src,
-        start,
-        len,
-        stride,
-        0,
-        x,
-        d,
-        mode,
-    );
-}
 
 // Outputs x up to x + m of a line, whose elements are taken whole.
 fn convolve_whole(
@@ -160,7 +42,7 @@ fn convolve_whole(
 {
     let taps = weights.len();
     let more = taps - 1;
-    fill_whole(line, m + more, src, start, len, stride, x, taps / 2, mode);
+    blocks::fill_whole(line, m + more, src, start, len, stride, x, taps / 2, mode);
     lanes::weigh(dst, x * stride, m * stride, acc, line, 0, stride, weights);
 }
 
@@ -186,7 +68,7 @@ fn convolve_strip(
 {
     let taps = weights.len();
     let more = taps - 1;
-    fill(
+    blocks::fill(
         line,
         n,
         0,
@@ -236,7 +118,7 @@ fn convolve_strips(
 {
     let mut from = 0;
     while from < stride {
-        let n = least(LANES, stride - from);
+        let n = blocks::least(LANES, stride - from);
         convolve_strip(
             line,
             acc,
@@ -296,10 +178,10 @@ fn convolve_line(
     requires { ⌜ Source (now src) (now weights) start len stride ⌝ ∗ ⌜ len * stride ≤ length (now dst) ⌝ ∗ ⌜ Buffers (now line) (now acc) ⌝ }
     ensures { λ _. ⌜ ((j : ℕ) → j < len * stride → getD (now (dst .exit)) j 0 ≡ lineByte mode (now (weights .entry)) (now (src .entry)) start len stride j) ⌝ }
 {
-    let most = SUMS / least(stride, WHOLE);
+    let most = SUMS / blocks::least(stride, WHOLE);
     let mut x = 0;
     while x < len {
-        let m = least(most, len - x);
+        let m = blocks::least(most, len - x);
         convolve_block(line, acc, src, start, dst, len, stride, x, m, weights, mode);
         x += m;
     }

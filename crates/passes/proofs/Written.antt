@@ -24,7 +24,8 @@ within o stride x n l = omega (arith, mul-le-mul-right {m = x + 1} {n = n} strid
 pub scale : (o stride x y : ℕ) → x ≤ y → o + x * stride ≤ o + y * stride
 scale o stride x y l = omega (arith, mul-le-mul-right {m = x} {n = y} stride l)
 
-le-or-lt : (b x : ℕ) → (b ≤ x) ⊎ (x < b)
+-- below or not
+pub le-or-lt : (b x : ℕ) → (b ≤ x) ⊎ (x < b)
 le-or-lt b x = split (ltb x b) refl
   where
     split : (t : Bool) → ltb x b ≡ t → (b ≤ x) ⊎ (x < b)

@@ -5,9 +5,9 @@ use native.Mathlib.Nat.{div-lt-iff-lt-mul}
 use native.Mathlib.Omega.{arith}
 use borrow.Author.Needs.{needs}
 use lib.ListN.{length}
-use Rattle.convolve.specs.Blocks.{Convolved}
+use Rattle.convolve.specs.Bytes.{Convolved}
 use Rattle.convolve.specs.Room.{whole, sumRoom}
-use Rattle.convolve.proofs.Progress.{made-none, made-join}
+use Rattle.blocks.proofs.Progress.{made-none, made-join}
 use Rattle.convolve.proofs.Taps.{block-size}
 use Rattle.convolve.proofs.convolve_line.Statement.{statement}
 use Rattle.convolve.proofs.convolve_line.Tie as tie

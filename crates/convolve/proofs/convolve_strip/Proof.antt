@@ -7,9 +7,9 @@ use denote.Ref.{now}
 use Rattle.picture.specs.declared.EdgeMode.{EdgeMode}
 use Rattle.edges.specs.Edges.{Reach}
 use Rattle.passes.proofs.Written.{within}
-use Rattle.convolve.specs.Blocks.{Convolved, Strip}
-use Rattle.convolve.proofs.Progress.{made-none, made-in, made-span, made-join}
-use Rattle.convolve.proofs.Places.{strip-place, strip-at}
+use Rattle.convolve.specs.Bytes.{Convolved, Strip}
+use Rattle.blocks.proofs.Progress.{made-none, made-in, made-span, made-join}
+use Rattle.blocks.proofs.Places.{strip-place, strip-at}
 use Rattle.convolve.proofs.Taps.{some-taps, block-reach, taps-room}
 use Rattle.convolve.proofs.Bytes.{Filled, lane-byte, lane-nonneg}
 use Rattle.convolve.proofs.convolve_strip.Statement.{statement}

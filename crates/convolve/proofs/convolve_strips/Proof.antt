@@ -6,9 +6,9 @@ use native.Mathlib.Omega.{arith}
 use borrow.Author.Needs.{needs}
 use lib.ListN.{length}
 use denote.Ref.{now}
-use Rattle.convolve.specs.Blocks.{Convolved, Elements}
+use Rattle.convolve.specs.Bytes.{Convolved, Elements}
 use Rattle.convolve.specs.Room.{lanes}
-use Rattle.convolve.proofs.Progress.{made-none, made-in, made-join}
+use Rattle.blocks.proofs.Progress.{made-none, made-in, made-join}
 use Rattle.convolve.proofs.convolve_strips.Statement.{statement}
 use Rattle.convolve.proofs.convolve_strips.Tie as tie
 

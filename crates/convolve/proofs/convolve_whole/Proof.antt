@@ -7,8 +7,8 @@ use borrow.Author.Needs.{needs}
 use lib.ListN.{length, getD}
 use denote.Ref.{now}
 use Rattle.edges.specs.Edges.{Reach}
-use Rattle.convolve.proofs.Progress.{made-in, made-span}
-use Rattle.convolve.proofs.Places.{whole-place, whole-at}
+use Rattle.blocks.proofs.Progress.{made-in, made-span}
+use Rattle.blocks.proofs.Places.{whole-place, whole-at}
 use Rattle.convolve.proofs.Taps.{some-taps, block-reach, taps-room}
 use Rattle.convolve.proofs.Bytes.{Filled, lane-byte, lane-nonneg}
 use Rattle.convolve.proofs.convolve_whole.Statement.{statement}

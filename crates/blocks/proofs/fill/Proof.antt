@@ -6,11 +6,11 @@ use native.Mathlib.Omega.{arith}
 use lib.Ieee.{nan}
 use lib.ListN.{length}
 use Rattle.passes.proofs.Written.{within}
-use Rattle.convolve.specs.Blocks.{blockValue, Made}
-use Rattle.convolve.proofs.Progress.{made-none, made-span, made-join}
-use Rattle.convolve.proofs.Places.{at-element}
-use Rattle.convolve.proofs.fill.Statement.{statement}
-use Rattle.convolve.proofs.fill.Tie as tie
+use Rattle.blocks.specs.Blocks.{blockValue, Made}
+use Rattle.blocks.proofs.Progress.{made-none, made-span, made-join}
+use Rattle.blocks.proofs.Places.{at-element}
+use Rattle.blocks.proofs.fill.Statement.{statement}
+use Rattle.blocks.proofs.fill.Tie as tie
 
 abbrev Inv-loop : tie.InvT-loop
 Inv-loop line₀ n first last src start len stride from x d mode e₀ line e =

@@ -5,10 +5,10 @@ use native.Mathlib.Omega.{arith}
 use borrow.Author.Needs.{needs}
 use denote.Ref.{now}
 use Rattle.picture.proofs.Sizes.{room-is}
-use Rattle.convolve.proofs.Progress.{made-span, made-join}
-use Rattle.convolve.proofs.Values.{run-ends, run-fits, run-value}
-use Rattle.convolve.proofs.fill_whole.Statement.{statement}
-use Rattle.convolve.proofs.fill_whole.Tie as tie
+use Rattle.blocks.proofs.Progress.{made-span, made-join}
+use Rattle.blocks.proofs.Values.{run-ends, run-fits, run-value}
+use Rattle.blocks.proofs.fill_whole.Statement.{statement}
+use Rattle.blocks.proofs.fill_whole.Tie as tie
 
 module _ (c : tie.After-least) where
   abbrev low : ℕ

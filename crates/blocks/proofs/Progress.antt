@@ -1,20 +1,11 @@
 -- Laws of what has been made: nothing, a span of values, one region after another.
-use mathlib.Core.Path.{_≡_, refl, _∙_}
-use mathlib.Core.Bool.{Bool, true, false}
+use mathlib.Core.Path.{_≡_, _∙_}
 use mathlib.Core.List.{List}
-use mathlib.Core.Logic.{_⊎_, inl, inr, ⊎-elim}
+use mathlib.Core.Logic.{⊎-elim}
 use Prim.Native.Nat.{ℕ, _≤_, _<_}
-use borrow.Author.Tests.{ltb-true, ltb-false}
-use lib.Dec.{ltb}
+use Rattle.passes.proofs.Written.{le-or-lt}
 use Rattle.lanes.specs.Lanes.{Span}
-use Rattle.convolve.specs.Blocks.{Made}
-
-le-or-lt : (b x : ℕ) → (b ≤ x) ⊎ (x < b)
-le-or-lt b x = split (ltb x b) refl
-  where
-    split : (t : Bool) → ltb x b ≡ t → (b ≤ x) ⊎ (x < b)
-    split true e = inr (ltb-true x b e)
-    split false e = inl (ltb-false x b e)
+use Rattle.blocks.specs.Blocks.{Made}
 
 module _ {A : Type 0} {none : A} {want : ℕ → A} where
   pub made-none : {R : ℕ → Type 0} {d : List A} → ((j : ℕ) → R j → ⊥) → Made none want R d d

@@ -14,7 +14,7 @@ use Rattle.edges.proofs.Samples.{sample-near}
 use Rattle.passes.specs.Written.{lane}
 use Rattle.binary32.specs.Ranges.{zero32}
 use Rattle.lanes.specs.Lanes.{widened}
-use Rattle.convolve.specs.Blocks.{blockValue}
+use Rattle.blocks.specs.Blocks.{blockValue}
 
 -- a sample whose place is known
 pub placed : (mode : EdgeMode) (s c d : ℕ) (line : Line) {p : At} → place mode s c d ≡ p → valueAt p line ≡ sample mode s line c d

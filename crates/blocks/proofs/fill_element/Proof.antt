@@ -14,9 +14,9 @@ use Rattle.passes.specs.Written.{lane}
 use Rattle.passes.proofs.Written.{within}
 use Rattle.lanes.specs.Lanes.{widened}
 use Rattle.lanes.proofs.Spans.{span-same}
-use Rattle.convolve.proofs.Values.{placed, nothing}
-use Rattle.convolve.proofs.fill_element.Statement.{statement}
-use Rattle.convolve.proofs.fill_element.Tie as tie
+use Rattle.blocks.proofs.Values.{placed, nothing}
+use Rattle.blocks.proofs.fill_element.Statement.{statement}
+use Rattle.blocks.proofs.fill_element.Tie as tie
 
 abbrev start : tie.After-widen-arg → tie.Start
 start c = c .before .before .before .before .before .before .before

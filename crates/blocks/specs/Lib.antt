@@ -1,0 +1,2 @@
+-- The definitions that contracts cite of blocks.
+pub mod Blocks
