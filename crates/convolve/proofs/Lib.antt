@@ -1,4 +1,3 @@
--- Laws of a convolution in blocks.
-mod Taps
-mod Bytes
+-- Laws of a convolution of lines.
 mod Lent
+mod Room

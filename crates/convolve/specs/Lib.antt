@@ -1,3 +1,2 @@
--- The definitions that contracts cite of a convolution in blocks.
-pub mod Bytes
-pub mod Room
+-- The definitions that contracts cite of a convolution of lines.
+pub mod Lines

@@ -1,167 +1,28 @@
-// The convolution of lines: a block of elements is filled with their values, summed there lane by lane under
-// each tap, and rounded.
+// The convolution of lines and levels, block by block.
 ghost use mathlib.Core.Path.{_≡_};
-ghost use Prim.Native.Nat.{ℕ, _+_, _-_, _*_, _/_, _≤_, _<_, min};
+ghost use Prim.Native.Nat.{ℕ, _*_, _≤_, _<_};
 ghost use lib.ListN.{length, getD};
 ghost use Rattle.picture.specs.Sizes.{levelBytes, Sized};
 ghost use Rattle.passes.specs.Passes.{convolve};
 ghost use Rattle.passes.specs.Levels.{levelPass};
 ghost use Rattle.passes.specs.Written.{passed};
-ghost use Rattle.convolve.specs.Bytes.{lineByte, Convolved, Elements, Strip};
-ghost use Rattle.convolve.specs.Room.{Kernel, Source, Lines, whole, lanes, sumRoom, Buffers};
+ghost use Rattle.block_sums.specs.Bytes.{lineByte};
+ghost use Rattle.block_sums.specs.Room.{Kernel, Source, whole, Buffers};
+ghost use Rattle.convolve.specs.Lines.{Lines};
 use picture::EdgeMode;
 use picture::LevelSize;
-
-// Elements of at most this many bytes are taken whole, others in strips of at most so many lanes.
-const WHOLE: usize = 32;
-
-const LANES: usize = 128;
 
 // At most this many sums at a time, and the values under them.
 const SUMS: usize = 1024;
 
-const LINE: usize = (SUMS / WHOLE + picture::MAX_TAPS - 1) * LANES;
+const LINE: usize = (SUMS / block_sums::WHOLE + picture::MAX_TAPS - 1) * block_sums::LANES;
 
-// Outputs x up to x + m of a line, whose elements are taken whole.
-fn convolve_whole(
-    line: &mut [f32],
-    acc: &mut [f32],
-    src: &[u8],
-    start: usize,
-    dst: &mut [u8],
-    len: usize,
-    stride: usize,
-    x: usize,
-    m: usize,
-    weights: &[f32],
-    mode: EdgeMode,
-)
-    requires { ⌜ Source (now src) (now weights) start len stride ⌝ ∗ ⌜ (0 < m) × (x + m ≤ len) ⌝ ∗ ⌜ len * stride ≤ length (now dst) ⌝
-        ∗ ⌜ (m + (length (now weights) - 1)) * stride ≤ length (now line) ⌝ ∗ ⌜ m * stride ≤ length (now acc) ⌝ }
-    ensures { λ _. ⌜ Convolved mode (now (weights .entry)) (now (src .entry)) start len stride (Elements stride x (x + m)) (now (dst .entry)) (now (dst .exit)) ⌝ }
-{
-    let taps = weights.len();
-    let more = taps - 1;
-    blocks::fill_whole(line, m + more, src, start, len, stride, x, taps / 2, mode);
-    lanes::weigh(dst, x * stride, m * stride, acc, line, 0, stride, weights);
-}
+// Lines of at most this many elements go in small buffers, where the elements are taken whole.
+const SHORT: usize = 8;
 
-// n lanes of them, from lane `from` on.
-fn convolve_strip(
-    line: &mut [f32],
-    acc: &mut [f32],
-    src: &[u8],
-    start: usize,
-    dst: &mut [u8],
-    len: usize,
-    stride: usize,
-    x: usize,
-    m: usize,
-    from: usize,
-    n: usize,
-    weights: &[f32],
-    mode: EdgeMode,
-)
-    requires { ⌜ Source (now src) (now weights) start len stride ⌝ ∗ ⌜ (0 < m) × (x + m ≤ len) ⌝ ∗ ⌜ len * stride ≤ length (now dst) ⌝
-        ∗ ⌜ (m + (length (now weights) - 1)) * n ≤ length (now line) ⌝ ∗ ⌜ (0 < n) × (from + n ≤ stride) × (n ≤ length (now acc)) ⌝ }
-    ensures { λ _. ⌜ Convolved mode (now (weights .entry)) (now (src .entry)) start len stride (Strip stride x (x + m) from (from + n)) (now (dst .entry)) (now (dst .exit)) ⌝ }
-{
-    let taps = weights.len();
-    let more = taps - 1;
-    blocks::fill(
-        line,
-        n,
-        0,
-        m + more,
-        src,
-        start,
-        len,
-        stride,
-        from,
-        x,
-        taps / 2,
-        mode,
-    );
-    let mut i = 0;
-    while i < m {
-        lanes::weigh(
-            dst,
-            (x + i) * stride + from,
-            n,
-            acc,
-            line,
-            i * n,
-            n,
-            weights,
-        );
-        i += 1;
-    }
-}
+const SHORT_SUMS: usize = SHORT * block_sums::WHOLE;
 
-// All lanes of them, strip by strip.
-fn convolve_strips(
-    line: &mut [f32],
-    acc: &mut [f32],
-    src: &[u8],
-    start: usize,
-    dst: &mut [u8],
-    len: usize,
-    stride: usize,
-    x: usize,
-    m: usize,
-    weights: &[f32],
-    mode: EdgeMode,
-)
-    requires { ⌜ Source (now src) (now weights) start len stride ⌝ ∗ ⌜ (0 < m) × (x + m ≤ len) ⌝ ∗ ⌜ len * stride ≤ length (now dst) ⌝
-        ∗ ⌜ (m + (length (now weights) - 1)) * lanes ≤ length (now line) ⌝ ∗ ⌜ lanes ≤ length (now acc) ⌝ }
-    ensures { λ _. ⌜ Convolved mode (now (weights .entry)) (now (src .entry)) start len stride (Elements stride x (x + m)) (now (dst .entry)) (now (dst .exit)) ⌝ }
-{
-    let mut from = 0;
-    while from < stride {
-        let n = blocks::least(LANES, stride - from);
-        convolve_strip(
-            line,
-            acc,
-            src,
-            start,
-            dst,
-            len,
-            stride,
-            x,
-            m,
-            from,
-            n,
-            weights,
-            mode,
-        );
-        from += n;
-    }
-}
-
-// Outputs x up to x + m, whole or in strips.
-fn convolve_block(
-    line: &mut [f32],
-    acc: &mut [f32],
-    src: &[u8],
-    start: usize,
-    dst: &mut [u8],
-    len: usize,
-    stride: usize,
-    x: usize,
-    m: usize,
-    weights: &[f32],
-    mode: EdgeMode,
-)
-    requires { ⌜ Source (now src) (now weights) start len stride ⌝ ∗ ⌜ (0 < m) × (x + m ≤ len) ⌝ ∗ ⌜ len * stride ≤ length (now dst) ⌝
-        ∗ ⌜ m * min stride whole ≤ sumRoom ⌝ ∗ ⌜ Buffers (now line) (now acc) ⌝ }
-    ensures { λ _. ⌜ Convolved mode (now (weights .entry)) (now (src .entry)) start len stride (Elements stride x (x + m)) (now (dst .entry)) (now (dst .exit)) ⌝ }
-{
-    if stride <= WHOLE {
-        convolve_whole(line, acc, src, start, dst, len, stride, x, m, weights, mode);
-    } else {
-        convolve_strips(line, acc, src, start, dst, len, stride, x, m, weights, mode);
-    }
-}
+const SHORT_LINE: usize = (SHORT + picture::MAX_TAPS - 1) * block_sums::WHOLE;
 
 // A line, block by block.
 fn convolve_line(
@@ -172,17 +33,17 @@ fn convolve_line(
     dst: &mut [u8],
     len: usize,
     stride: usize,
+    most: usize,
     weights: &[f32],
     mode: EdgeMode,
 )
-    requires { ⌜ Source (now src) (now weights) start len stride ⌝ ∗ ⌜ len * stride ≤ length (now dst) ⌝ ∗ ⌜ Buffers (now line) (now acc) ⌝ }
+    requires { ⌜ Source (now src) (now weights) start len stride ⌝ ∗ ⌜ len * stride ≤ length (now dst) ⌝ ∗ ⌜ Buffers (now line) (now acc) stride most ⌝ }
     ensures { λ _. ⌜ ((j : ℕ) → j < len * stride → getD (now (dst .exit)) j 0 ≡ lineByte mode (now (weights .entry)) (now (src .entry)) start len stride j) ⌝ }
 {
-    let most = SUMS / blocks::least(stride, WHOLE);
     let mut x = 0;
     while x < len {
         let m = blocks::least(most, len - x);
-        convolve_block(line, acc, src, start, dst, len, stride, x, m, weights, mode);
+        block_sums::convolve_block(line, acc, src, start, dst, len, stride, x, m, weights, mode);
         x += m;
     }
 }
@@ -196,10 +57,11 @@ fn each_line(
     lines: usize,
     len: usize,
     stride: usize,
+    most: usize,
     weights: &[f32],
     mode: EdgeMode,
 )
-    requires { ⌜ Lines (now src) (now dst) (now weights) lines len stride ⌝ ∗ ⌜ Buffers (now line) (now acc) ⌝ }
+    requires { ⌜ Lines (now src) (now dst) (now weights) lines len stride ⌝ ∗ ⌜ Buffers (now line) (now acc) stride most ⌝ }
     ensures { λ _. ⌜ now (dst .exit) ≡ passed (convolve mode (now (weights .entry))) (now (src .entry)) lines len len stride ⌝ }
 {
     let mut y = 0;
@@ -214,11 +76,71 @@ fn each_line(
             &mut dst[o..o + size],
             len,
             stride,
+            most,
             weights,
             mode,
         );
         y += 1;
     }
+}
+
+// Lines of small elements in small buffers, which are soon zeroed.
+fn convolve_short(
+    src: &[u8],
+    dst: &mut [u8],
+    lines: usize,
+    len: usize,
+    stride: usize,
+    weights: &[f32],
+    mode: EdgeMode,
+)
+    requires { ⌜ Lines (now src) (now dst) (now weights) lines len stride ⌝ ∗ ⌜ stride ≤ whole ⌝ }
+    ensures { λ _. ⌜ now (dst .exit) ≡ passed (convolve mode (now (weights .entry))) (now (src .entry)) lines len len stride ⌝ }
+{
+    let mut line = [0.0f32; SHORT_LINE];
+    let mut acc = [0.0f32; SHORT_SUMS];
+    each_line(
+        &mut line,
+        &mut acc,
+        src,
+        dst,
+        lines,
+        len,
+        stride,
+        SHORT,
+        weights,
+        mode,
+    );
+}
+
+// Any lines, in as large blocks as there is room for.
+fn convolve_long(
+    src: &[u8],
+    dst: &mut [u8],
+    lines: usize,
+    len: usize,
+    stride: usize,
+    weights: &[f32],
+    mode: EdgeMode,
+)
+    requires { ⌜ Lines (now src) (now dst) (now weights) lines len stride ⌝ }
+    ensures { λ _. ⌜ now (dst .exit) ≡ passed (convolve mode (now (weights .entry))) (now (src .entry)) lines len len stride ⌝ }
+{
+    let most = SUMS / blocks::least(stride, block_sums::WHOLE);
+    let mut line = [0.0f32; LINE];
+    let mut acc = [0.0f32; SUMS];
+    each_line(
+        &mut line,
+        &mut acc,
+        src,
+        dst,
+        lines,
+        len,
+        stride,
+        most,
+        weights,
+        mode,
+    );
 }
 
 // Each of `lines` lines of len elements of stride bytes, convolved. The rows of a picture are h lines of w
@@ -235,19 +157,13 @@ pub fn convolve_lines(
     requires { ⌜ Lines (now src) (now dst) (now weights) lines len stride ⌝ }
     ensures { λ _. ⌜ now (dst .exit) ≡ passed (convolve mode (now (weights .entry))) (now (src .entry)) lines len len stride ⌝ }
 {
-    let mut line = [0.0f32; LINE];
-    let mut acc = [0.0f32; SUMS];
-    each_line(
-        &mut line,
-        &mut acc,
-        src,
-        dst,
-        lines,
-        len,
-        stride,
-        weights,
-        mode,
-    );
+    if SHORT < len {
+        convolve_long(src, dst, lines, len, stride, weights, mode);
+    } else if block_sums::WHOLE < stride {
+        convolve_long(src, dst, lines, len, stride, weights, mode);
+    } else {
+        convolve_short(src, dst, lines, len, stride, weights, mode);
+    }
 }
 
 // A level convolved: rows to scratch, then columns back.

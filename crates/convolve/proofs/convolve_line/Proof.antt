@@ -1,19 +1,18 @@
 -- Each turn makes the bytes of one block more.
 use mathlib.Core.Path.{_≡_, refl, _∙_}
-use Prim.Native.Nat.{_+_, _-_, _*_, _/_, _≤_, _<_, min}
+use Prim.Native.Nat.{_+_, _-_, _/_, _≤_, _<_}
 use native.Mathlib.Nat.{div-lt-iff-lt-mul}
 use native.Mathlib.Omega.{arith}
 use borrow.Author.Needs.{needs}
 use lib.ListN.{length}
-use Rattle.convolve.specs.Bytes.{Convolved}
-use Rattle.convolve.specs.Room.{whole, sumRoom}
+use Rattle.block_sums.specs.Bytes.{Convolved}
 use Rattle.blocks.proofs.Progress.{made-none, made-join}
-use Rattle.convolve.proofs.Taps.{block-size}
+use Rattle.convolve.proofs.Room.{room-still}
 use Rattle.convolve.proofs.convolve_line.Statement.{statement}
 use Rattle.convolve.proofs.convolve_line.Tie as tie
 
 abbrev Inv-loop : tie.InvT-loop
-Inv-loop line₀ acc₀ src start dst₀ len stride weights mode most x₀ line acc dst x =
+Inv-loop line₀ acc₀ src start dst₀ len stride most weights mode x₀ line acc dst x =
     (x ≤ len)
     × (length line ≡ length line₀)
     × (length acc ≡ length acc₀)
@@ -21,26 +20,23 @@ Inv-loop line₀ acc₀ src start dst₀ len stride weights mode most x₀ line 
     × Convolved mode weights src start len stride (λ j. j / stride < x) dst₀ dst
 
 abbrev μ-loop : tie.MeasureT-loop
-μ-loop line₀ acc₀ src start dst₀ len stride weights mode most x₀ line acc dst x = len - x
+μ-loop line₀ acc₀ src start dst₀ len stride most weights mode x₀ line acc dst x = len - x
 
 -- where the function starts, from the loop's head
 abbrev start : tie.At-loop Inv-loop μ-loop → tie.Start Inv-loop μ-loop
-start l = l .before .before .before .before .before .before .before
-
-div-most : tie.Need-div-most Inv-loop μ-loop
-div-most c = omega (arith, c .least .ensures, c .before .before .before .before .before .before .pre .0 .stride-low)
+start l = l .before .before .before .before .before .before
 
 loop-holds : tie.Need-loop-holds Inv-loop μ-loop
 loop-holds c = (omega arith, refl, refl, refl, made-none (λ j r. omega arith))
 
 -- the elements of a turn
-size : (c : tie.After-least2 Inv-loop μ-loop) →
+size : (c : tie.After-least Inv-loop μ-loop) →
     let l = c .before .before in
-    let m = c .least2 .result in (0 < m) × (l .loop .x + m ≤ start l .args .len) × (m * min (start l .args .stride) whole ≤ sumRoom)
+    let m = c .least .result in (0 < m) × (l .loop .x + m ≤ start l .args .len) × (m ≤ start l .args .most)
 size c =
     let l = c .before .before in
     let s = start l in
-    block-size (s .args .stride) (l .before .least .result) (s .args .len) (l .loop .x) (c .least2 .result) (s .pre .0 .stride-low) (l .before .least .ensures) (c .before .loop-test .taken) (c .least2 .ensures)
+    omega (arith, s .pre .1 .1 .some, c .before .loop-test .taken, c .least .ensures)
 
 convolve-block-requires : tie.Need-convolve-block-requires Inv-loop μ-loop
 convolve-block-requires c κs =
@@ -49,8 +45,7 @@ convolve-block-requires c κs =
     let s = start l in
     let i = l .loop .inv in
     let n = size t in
-    let b = s .pre .1 .1 in
-    (s .pre .0, ((n .0, n .1), (omega (arith, s .pre .1 .0, i .3), (n .2, record { line-size = i .1 ∙ b .line-size; acc-size = i .2 ∙ b .acc-size }))))
+    (s .pre .0, (n .1, (omega (arith, s .pre .1 .0, i .3), room-still (s .pre .1 .1) (i .1) (i .2) (n .0) (n .2))))
 
 loop-again : tie.Need-loop-again Inv-loop μ-loop
 loop-again c =
@@ -77,8 +72,6 @@ convolve-line-spec =
     (tie.spec
     Inv-loop
     μ-loop
-    (λ c κs. search needs)
-    div-most
     loop-holds
     (λ c. omega arith)
     (λ c κs. search needs)

@@ -10,11 +10,12 @@ use Rattle.passes.specs.Passes.{convolve}
 use Rattle.passes.specs.Written.{Part}
 use Rattle.passes.proofs.Written.{within, lineOf, part-none, part-one, part-join, part-passed}
 use Rattle.convolve.proofs.Lent.{run-back}
+use Rattle.convolve.proofs.Room.{room-still}
 use Rattle.convolve.proofs.each_line.Statement.{statement}
 use Rattle.convolve.proofs.each_line.Tie as tie
 
 abbrev Inv-loop : tie.InvT-loop
-Inv-loop line₀ acc₀ src dst₀ lines len stride weights mode y₀ line acc dst y =
+Inv-loop line₀ acc₀ src dst₀ lines len stride most weights mode y₀ line acc dst y =
     (y ≤ lines)
     × (length line ≡ length line₀)
     × (length acc ≡ length acc₀)
@@ -22,7 +23,7 @@ Inv-loop line₀ acc₀ src dst₀ lines len stride weights mode y₀ line acc d
     × Part dst₀ dst 0 0 y (len * stride) (λ y k. lineOf (convolve mode weights) src (y * (len * stride)) len stride k)
 
 abbrev μ-loop : tie.MeasureT-loop
-μ-loop line₀ acc₀ src dst₀ lines len stride weights mode y₀ line acc dst y = lines - y
+μ-loop line₀ acc₀ src dst₀ lines len stride most weights mode y₀ line acc dst y = lines - y
 
 -- where the function starts, from the loop's head
 abbrev start : tie.At-loop Inv-loop μ-loop → tie.Start Inv-loop μ-loop
@@ -62,7 +63,7 @@ convolve-line-requires c κs =
     let i = l .loop .inv in
     let e = ends t in (
       record { kernel = p .kernel; len-high = p .len-high; stride-low = p .stride-low; end = omega (arith, p .src-size) },
-      (simp (length-take, length-drop) (omega (arith, p .dst-size)), record { line-size = i .1 ∙ b .line-size; acc-size = i .2 ∙ b .acc-size }),
+      (simp (length-take, length-drop) (omega (arith, p .dst-size)), room-still b (i .1) (i .2) (b .some) (omega arith)),
     )
 
 loop-again : tie.Need-loop-again Inv-loop μ-loop

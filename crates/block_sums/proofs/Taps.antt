@@ -2,7 +2,7 @@
 use mathlib.Core.Path.{_≡_}
 use mathlib.Core.List.{List}
 use Prim.Native.Nat.{ℕ, _+_, _-_, _*_, _/_, _≤_, _<_, min}
-use native.Mathlib.Nat.{add-mul, one-mul, mul-le-mul-left, mul-le-mul-right, le-div-iff-mul-le, div-mul-le-self}
+use native.Mathlib.Nat.{add-mul, one-mul, mul-le-mul-right}
 use native.Mathlib.Omega.{arith}
 use borrow.Author.Tests.{eqb-false, ltb-false}
 use lib.Dec.{eqb, ltb}
@@ -12,7 +12,7 @@ use Rattle.picture.specs.Refusal.{maxTaps, wrongTaps, zeroOrAbove}
 use Rattle.picture.proofs.Sizes.{room-is}
 use Rattle.picture.proofs.Tests.{neither}
 use Rattle.edges.specs.Edges.{Reach}
-use Rattle.convolve.specs.Room.{Kernel, Source, whole, lanes, sumRoom, lineRoom, Buffers}
+use Rattle.block_sums.specs.Room.{Kernel, Source, whole, lanes, Buffers}
 
 -- the most taps are far fewer than arithmetic has room for
 pub few-taps : maxTaps ≤ 1024
@@ -46,25 +46,18 @@ taps-room m k n l =
     ap-mul n e = rw e
 
 -- the buffers have room for a block of whole elements, and for one that goes in strips
-module _ {weights line acc : List Float} (w : Kernel weights) (b : Buffers line acc) (m stride : ℕ) (r : m * min stride whole ≤ sumRoom) where
+module _ {weights line acc : List Float} (w : Kernel weights) (m stride : ℕ) (b : Buffers line acc stride m) where
+  -- the taps that there are, for the most that there may be
+  values : (m + (length weights - 1)) * min stride lanes ≤ length line
+  values =
+      let k : m + (length weights - 1) ≤ m + (maxTaps - 1) = omega (arith, most-taps w) in
+      omega (arith, mul-le-mul-right (min stride lanes) k, b .values)
+
   pub whole-room : stride ≤ whole → ((m + (length weights - 1)) * stride ≤ length line) × (m * stride ≤ length acc)
-  unfolding lineRoom
   whole-room l =
-      let e : min stride whole ≡ stride = omega arith in
-      let sums : m * stride ≤ sumRoom = rw e at r in
-      (omega (arith, b .line-size, most-taps w, taps-room m (length weights) stride (some-taps w), mul-le-mul-left (length weights) l), omega (arith, b .acc-size))
+      let e : min stride lanes ≡ stride = omega arith in
+      let f : min stride whole ≡ stride = omega arith in
+      (rw e at values, rw f at (b .sums))
 
-  pub strip-room : whole < stride → ((m + (length weights - 1)) * lanes ≤ length line) × (lanes ≤ length acc)
-  unfolding lineRoom
-  strip-room l =
-      let e : min stride whole ≡ whole = omega arith in
-      let sums : m * whole ≤ sumRoom = rw e at r in
-      (omega (arith, b .line-size, most-taps w, some-taps w), omega (arith, b .acc-size))
-
--- a block's elements: some, no more than are left, and no more than there is room for
-pub block-size : (stride w len x m : ℕ) → 0 < stride → w ≡ min stride whole → x < len → m ≡ min (sumRoom / w) (len - x) → (0 < m) × (x + m ≤ len) × (m * min stride whole ≤ sumRoom)
-block-size stride w len x m z e l f =
-    let q = sumRoom / w in
-    let some : 1 ≤ q = le-div-iff-mul-le {k = w} (omega arith) .1 (omega arith) in
-    let fits : m * w ≤ sumRoom = omega (arith, div-mul-le-self sumRoom w, mul-le-mul-right {m = m} {n = q} w (omega arith)) in
-    (omega arith, omega arith, rw e at fits)
+  pub strip-room : ((m + (length weights - 1)) * min stride lanes ≤ length line) × (min stride lanes ≤ length acc)
+  strip-room = (values, b .strip)

@@ -21,9 +21,9 @@ use Rattle.passes.specs.Written.{lane}
 use Rattle.lanes.specs.Lanes.{widened, laneSum}
 use Rattle.lanes.proofs.Taps.{weighted-taps}
 use Rattle.blocks.specs.Blocks.{blockValue}
-use Rattle.convolve.specs.Bytes.{lineByte}
-use Rattle.convolve.specs.Room.{Kernel}
-use Rattle.convolve.proofs.Taps.{few-taps, most-taps}
+use Rattle.block_sums.specs.Bytes.{lineByte}
+use Rattle.block_sums.specs.Room.{Kernel}
+use Rattle.block_sums.proofs.Taps.{few-taps, most-taps}
 
 -- the line holds a block of m elements and what the taps add at its ends
 pub record Filled (mode : EdgeMode) (weights : List Float) (src : List ℕ) (start len stride from n x m : ℕ) (line : List Float) : Type 0 where

@@ -9,10 +9,10 @@ use denote.Ref.{now}
 use Rattle.edges.specs.Edges.{Reach}
 use Rattle.blocks.proofs.Progress.{made-in, made-span}
 use Rattle.blocks.proofs.Places.{whole-place, whole-at}
-use Rattle.convolve.proofs.Taps.{some-taps, block-reach, taps-room}
-use Rattle.convolve.proofs.Bytes.{Filled, lane-byte, lane-nonneg}
-use Rattle.convolve.proofs.convolve_whole.Statement.{statement}
-use Rattle.convolve.proofs.convolve_whole.Tie as tie
+use Rattle.block_sums.proofs.Taps.{some-taps, block-reach, taps-room}
+use Rattle.block_sums.proofs.Bytes.{Filled, lane-byte, lane-nonneg}
+use Rattle.block_sums.proofs.convolve_whole.Statement.{statement}
+use Rattle.block_sums.proofs.convolve_whole.Tie as tie
 
 module _ (s : tie.Start) where
   reach : let a = s .args in let k = length (now (a .weights)) in Reach (a .len) (a .x + (a .m + (k - 1))) (k / 2)

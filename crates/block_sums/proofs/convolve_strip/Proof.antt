@@ -7,13 +7,13 @@ use denote.Ref.{now}
 use Rattle.picture.specs.declared.EdgeMode.{EdgeMode}
 use Rattle.edges.specs.Edges.{Reach}
 use Rattle.passes.proofs.Written.{within}
-use Rattle.convolve.specs.Bytes.{Convolved, Strip}
+use Rattle.block_sums.specs.Bytes.{Convolved, Strip}
 use Rattle.blocks.proofs.Progress.{made-none, made-in, made-span, made-join}
 use Rattle.blocks.proofs.Places.{strip-place, strip-at}
-use Rattle.convolve.proofs.Taps.{some-taps, block-reach, taps-room}
-use Rattle.convolve.proofs.Bytes.{Filled, lane-byte, lane-nonneg}
-use Rattle.convolve.proofs.convolve_strip.Statement.{statement}
-use Rattle.convolve.proofs.convolve_strip.Tie as tie
+use Rattle.block_sums.proofs.Taps.{some-taps, block-reach, taps-room}
+use Rattle.block_sums.proofs.Bytes.{Filled, lane-byte, lane-nonneg}
+use Rattle.block_sums.proofs.convolve_strip.Statement.{statement}
+use Rattle.block_sums.proofs.convolve_strip.Tie as tie
 
 -- the loop does not know the edge rule: it holds of any by which the line is filled
 abbrev Inv-loop : tie.InvT-loop

@@ -1,16 +1,16 @@
 -- Each turn makes one strip more.
 use mathlib.Core.Path.{_≡_, refl, _∙_}
-use Prim.Native.Nat.{_+_, _-_, _%_, _≤_, _<_}
+use Prim.Native.Nat.{_+_, _-_, _%_, _≤_, _<_, min}
 use native.Mathlib.Nat.{mul-le-mul-left, mod-lt}
 use native.Mathlib.Omega.{arith}
 use borrow.Author.Needs.{needs}
 use lib.ListN.{length}
 use denote.Ref.{now}
-use Rattle.convolve.specs.Bytes.{Convolved, Elements}
-use Rattle.convolve.specs.Room.{lanes}
+use Rattle.block_sums.specs.Bytes.{Convolved, Elements}
+use Rattle.block_sums.specs.Room.{lanes}
 use Rattle.blocks.proofs.Progress.{made-none, made-in, made-join}
-use Rattle.convolve.proofs.convolve_strips.Statement.{statement}
-use Rattle.convolve.proofs.convolve_strips.Tie as tie
+use Rattle.block_sums.proofs.convolve_strips.Statement.{statement}
+use Rattle.block_sums.proofs.convolve_strips.Tie as tie
 
 abbrev Inv-loop : tie.InvT-loop
 Inv-loop line₀ acc₀ src start dst₀ len stride x m weights mode from₀ line acc dst from =
@@ -28,7 +28,8 @@ loop-holds c = (omega arith, refl, refl, refl, made-none (λ j r. omega arith))
 
 -- the lanes of a turn
 width : (c : tie.After-least Inv-loop μ-loop) →
-    let n = c .least .result in (0 < n) × (c .before .before .loop .from + n ≤ c .before .before .before .before .before .before .before .before .args .stride) × (n ≤ lanes)
+    let n = c .least .result in
+    let stride = c .before .before .before .before .before .before .before .before .args .stride in (0 < n) × (c .before .before .loop .from + n ≤ stride) × (n ≤ min stride lanes)
 width c = let e = c .least .ensures in let t = c .before .loop-test .taken in (omega arith, omega arith, omega arith)
 
 convolve-strip-requires : tie.Need-convolve-strip-requires Inv-loop μ-loop

@@ -1,0 +1,3 @@
+-- Laws of a block's sums.
+mod Taps
+mod Bytes

@@ -1,0 +1,3 @@
+-- The definitions that contracts cite of a block's sums.
+pub mod Bytes
+pub mod Room

@@ -1,0 +1,36 @@
+-- What the convolution of a block asks of its kernel, its line and its buffers.
+use mathlib.Core.Path.{_≡_}
+use mathlib.Core.Bool.{false}
+use mathlib.Core.List.{List}
+use Prim.Native.Nat.{ℕ, _+_, _-_, _*_, _≤_, _<_, min}
+use lib.Ieee.{Float}
+use lib.ListN.{length}
+use Rattle.picture.specs.Sizes.{sideRoom}
+use Rattle.picture.specs.Refusal.{maxTaps, wrongTaps}
+use Rattle.binary32.specs.Ranges.{anyOutside}
+
+-- a kernel that checks 4 and 5 let through
+pub record Kernel (weights : List Float) : Type 0 where
+  pub counted : wrongTaps (length weights) ≡ false
+  pub inUnit : anyOutside weights ≡ false
+
+-- a line that can be convolved
+pub record Source (src : List ℕ) (weights : List Float) (start len stride : ℕ) : Type 0 where
+  pub kernel : Kernel weights
+  pub len-high : len ≤ sideRoom
+  pub stride-low : 0 < stride
+  pub end : start + len * stride ≤ length src
+
+-- elements of at most this many bytes are taken whole, others in strips of at most so many lanes
+abbrev pub whole : ℕ
+whole = 32
+
+abbrev pub lanes : ℕ
+lanes = 128
+
+-- room for blocks of at most `most` elements of stride bytes: for the values of a strip with those that the taps read beyond its elements, for the sums of whole elements, and for those of a strip
+pub record Buffers (line acc : List Float) (stride most : ℕ) : Type 0 where
+  pub some : 0 < most
+  pub values : (most + (maxTaps - 1)) * min stride lanes ≤ length line
+  pub sums : most * min stride whole ≤ length acc
+  pub strip : min stride lanes ≤ length acc

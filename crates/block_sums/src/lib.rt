@@ -1,0 +1,153 @@
+// One block of a line convolved: it is filled with its values, which are summed lane by lane under each tap and
+// rounded.
+ghost use mathlib.Core.Path.{_≡_};
+ghost use Prim.Native.Nat.{ℕ, _+_, _-_, _*_, _≤_, _<_, min};
+ghost use lib.ListN.{length};
+ghost use Rattle.block_sums.specs.Bytes.{Convolved, Elements, Strip};
+ghost use Rattle.block_sums.specs.Room.{Source, lanes, Buffers};
+use picture::EdgeMode;
+
+// Elements of at most this many bytes are taken whole, others in strips of at most so many lanes.
+pub const WHOLE: usize = 32;
+
+pub const LANES: usize = 128;
+
+// Outputs x up to x + m of a line, whose elements are taken whole.
+fn convolve_whole(
+    line: &mut [f32],
+    acc: &mut [f32],
+    src: &[u8],
+    start: usize,
+    dst: &mut [u8],
+    len: usize,
+    stride: usize,
+    x: usize,
+    m: usize,
+    weights: &[f32],
+    mode: EdgeMode,
+)
+    requires { ⌜ Source (now src) (now weights) start len stride ⌝ ∗ ⌜ (0 < m) × (x + m ≤ len) ⌝ ∗ ⌜ len * stride ≤ length (now dst) ⌝
+        ∗ ⌜ (m + (length (now weights) - 1)) * stride ≤ length (now line) ⌝ ∗ ⌜ m * stride ≤ length (now acc) ⌝ }
+    ensures { λ _. ⌜ Convolved mode (now (weights .entry)) (now (src .entry)) start len stride (Elements stride x (x + m)) (now (dst .entry)) (now (dst .exit)) ⌝ }
+{
+    let taps = weights.len();
+    let more = taps - 1;
+    blocks::fill_whole(line, m + more, src, start, len, stride, x, taps / 2, mode);
+    lanes::weigh(dst, x * stride, m * stride, acc, line, 0, stride, weights);
+}
+
+// n lanes of them, from lane `from` on.
+fn convolve_strip(
+    line: &mut [f32],
+    acc: &mut [f32],
+    src: &[u8],
+    start: usize,
+    dst: &mut [u8],
+    len: usize,
+    stride: usize,
+    x: usize,
+    m: usize,
+    from: usize,
+    n: usize,
+    weights: &[f32],
+    mode: EdgeMode,
+)
+    requires { ⌜ Source (now src) (now weights) start len stride ⌝ ∗ ⌜ (0 < m) × (x + m ≤ len) ⌝ ∗ ⌜ len * stride ≤ length (now dst) ⌝
+        ∗ ⌜ (m + (length (now weights) - 1)) * n ≤ length (now line) ⌝ ∗ ⌜ (0 < n) × (from + n ≤ stride) × (n ≤ length (now acc)) ⌝ }
+    ensures { λ _. ⌜ Convolved mode (now (weights .entry)) (now (src .entry)) start len stride (Strip stride x (x + m) from (from + n)) (now (dst .entry)) (now (dst .exit)) ⌝ }
+{
+    let taps = weights.len();
+    let more = taps - 1;
+    blocks::fill(
+        line,
+        n,
+        0,
+        m + more,
+        src,
+        start,
+        len,
+        stride,
+        from,
+        x,
+        taps / 2,
+        mode,
+    );
+    let mut i = 0;
+    while i < m {
+        lanes::weigh(
+            dst,
+            (x + i) * stride + from,
+            n,
+            acc,
+            line,
+            i * n,
+            n,
+            weights,
+        );
+        i += 1;
+    }
+}
+
+// All lanes of them, strip by strip.
+fn convolve_strips(
+    line: &mut [f32],
+    acc: &mut [f32],
+    src: &[u8],
+    start: usize,
+    dst: &mut [u8],
+    len: usize,
+    stride: usize,
+    x: usize,
+    m: usize,
+    weights: &[f32],
+    mode: EdgeMode,
+)
+    requires { ⌜ Source (now src) (now weights) start len stride ⌝ ∗ ⌜ (0 < m) × (x + m ≤ len) ⌝ ∗ ⌜ len * stride ≤ length (now dst) ⌝
+        ∗ ⌜ (m + (length (now weights) - 1)) * min stride lanes ≤ length (now line) ⌝ ∗ ⌜ min stride lanes ≤ length (now acc) ⌝ }
+    ensures { λ _. ⌜ Convolved mode (now (weights .entry)) (now (src .entry)) start len stride (Elements stride x (x + m)) (now (dst .entry)) (now (dst .exit)) ⌝ }
+{
+    let mut from = 0;
+    while from < stride {
+        let n = blocks::least(LANES, stride - from);
+        convolve_strip(
+            line,
+            acc,
+            src,
+            start,
+            dst,
+            len,
+            stride,
+            x,
+            m,
+            from,
+            n,
+            weights,
+            mode,
+        );
+        from += n;
+    }
+}
+
+// Outputs x up to x + m, whole or in strips.
+pub fn convolve_block(
+    line: &mut [f32],
+    acc: &mut [f32],
+    src: &[u8],
+    start: usize,
+    dst: &mut [u8],
+    len: usize,
+    stride: usize,
+    x: usize,
+    m: usize,
+    weights: &[f32],
+    mode: EdgeMode,
+)
+    requires { ⌜ Source (now src) (now weights) start len stride ⌝ ∗ ⌜ x + m ≤ len ⌝ ∗ ⌜ len * stride ≤ length (now dst) ⌝ ∗ ⌜ Buffers (now line) (now acc) stride m ⌝ }
+    ensures { λ _. ⌜ Convolved mode (now (weights .entry)) (now (src .entry)) start len stride (Elements stride x (x + m)) (now (dst .entry)) (now (dst .exit)) ⌝ }
+{
+    if stride <= WHOLE {
+        convolve_whole(line, acc, src, start, dst, len, stride, x, m, weights, mode);
+    } else {
+        convolve_strips(line, acc, src, start, dst, len, stride, x, m, weights, mode);
+    }
+}

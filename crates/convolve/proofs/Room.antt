@@ -1,0 +1,54 @@
+-- Laws of the buffers: blocks for which there is room, and the buffers of long and of short lines.
+use mathlib.Core.Path.{_≡_, ap}
+use mathlib.Core.List.{List}
+use mathlib.Core.Logic.{⊎-elim}
+use Prim.Native.Nat.{ℕ, _+_, _-_, _*_, _/_, _≤_, _<_, min}
+use native.Mathlib.Nat.{add-mul, mul-le-mul-right, le-div-iff-mul-le, div-mul-le-self}
+use native.Mathlib.Omega.{arith}
+use lib.Ieee.{Float}
+use lib.ListN.{length, replicate, length-replicate}
+use Rattle.picture.specs.Refusal.{maxTaps}
+use Rattle.passes.proofs.Written.{le-or-lt}
+use Rattle.block_sums.specs.Room.{whole, lanes, Buffers}
+
+-- buffers of the same sizes, and no more elements
+pub room-still : {line line′ acc acc′ : List Float} {stride most m : ℕ} → Buffers line acc stride most → length line′ ≡ length line → length acc′ ≡ length acc → 0 < m → m ≤ most →
+    Buffers line′ acc′ stride m
+room-still {stride = stride} {most = most} {m = m} b l a s h =
+    let more : m + (maxTaps - 1) ≤ most + (maxTaps - 1) = omega arith in
+    record {
+      some = s;
+      values = omega (arith, b .values, mul-le-mul-right (min stride lanes) more);
+      sums = omega (arith, b .sums, mul-le-mul-right (min stride whole) h);
+      strip = omega (arith, b .strip);
+    }
+
+-- small elements, at most 8 of them
+pub short-room : {v : Float} {stride : ℕ} → stride ≤ whole → Buffers (replicate 1280 v) (replicate 256 v) stride 8
+unfolding maxTaps
+short-room {v} h =
+    let l = length-replicate 1280 v in
+    let a = length-replicate 256 v in
+    record { some = omega arith; values = omega arith; sums = omega arith; strip = omega arith }
+
+-- elements of any size, at most 1024 sums of whole ones
+pub long-room : {v : Float} {stride w : ℕ} → 0 < stride → w ≡ min stride whole → Buffers (replicate 8192 v) (replicate 1024 v) stride (1024 / w)
+unfolding maxTaps
+long-room {v} {stride} {w} z e =
+    let l = length-replicate 8192 v in
+    let a = length-replicate 1024 v in
+    record {
+      some = le-div-iff-mul-le {k = w} (omega arith) .1 (omega arith);
+      values = omega (arith, values);
+      sums = omega (arith, div-mul-le-self 1024 w, ap (λ (k : ℕ). 1024 / w * k) e);
+      strip = omega arith;
+    }
+  where
+    values : (1024 / w + 32) * min stride lanes ≤ 8192
+    values =
+        ⊎-elim
+        (λ (h : 33 ≤ stride). let f : w ≡ 32 = omega arith in rw f (omega arith))
+        (λ (h : stride < 33).
+        let f : min stride lanes ≡ w = omega arith in
+        rw f (omega (arith, add-mul (1024 / w) 32 w, div-mul-le-self 1024 w)))
+        (le-or-lt 33 stride)

@@ -1,0 +1,16 @@
+-- What a convolution of lines asks of them.
+use mathlib.Core.Path.{_≡_}
+use mathlib.Core.List.{List}
+use Prim.Native.Nat.{ℕ, _*_, _≤_, _<_}
+use lib.Ieee.{Float}
+use lib.ListN.{length}
+use Rattle.picture.specs.Sizes.{sideRoom}
+use Rattle.block_sums.specs.Room.{Kernel}
+
+-- lines one after the other, and as many bytes for what is made of them
+pub record Lines (src dst : List ℕ) (weights : List Float) (lines len stride : ℕ) : Type 0 where
+  pub kernel : Kernel weights
+  pub len-high : len ≤ sideRoom
+  pub stride-low : 0 < stride
+  pub src-size : length src ≡ lines * (len * stride)
+  pub dst-size : length dst ≡ lines * (len * stride)
