@@ -2,5 +2,6 @@
 pub mod Written
 pub mod Planes
 pub mod Local
+pub mod OneWide
 pub mod Relates
 pub mod Levels

@@ -19,12 +19,12 @@ row-place w x y c = omega (arith, mul-assoc y w 4)
 col-place : (n w x y c : ℕ) → 4 * (y * w + x) + c ≡ 0 * n + y * (4 * w) + (4 * x + c)
 col-place n w x y c = omega (arith, mul-left-comm y 4 w, zero-mul n)
 
-length-passed : (f : Pass) (src : List ℕ) (lines len out stride : ℕ) → length (passed f src lines len out stride) ≡ lines * (out * stride)
+pub length-passed : (f : Pass) (src : List ℕ) (lines len out stride : ℕ) → length (passed f src lines len out stride) ≡ lines * (out * stride)
 unfolding passed
 length-passed f src lines len out stride = length-build _ _
 
 -- what stands at one index stands at an equal one
-at : (l : List ℕ) {i j : ℕ} → i ≡ j → getD l i 0 ≡ getD l j 0
+pub at : (l : List ℕ) {i j : ℕ} → i ≡ j → getD l i 0 ≡ getD l j 0
 at l e = ap (λ (i : ℕ). getD l i 0) e
 
 module _ (f : Pass) (src : List ℕ) (w h v : ℕ) where

@@ -79,6 +79,13 @@ module _ {d : List ℕ} {o stride : ℕ} {f : ℕ → ℕ → ℕ} where
 pub part-same : {d e : List ℕ} {o a b stride : ℕ} {f g : ℕ → ℕ → ℕ} → Part d e o a b stride f → ((x k : ℕ) → a ≤ x → x < b → k < stride → f x k ≡ g x k) → Part d e o a b stride g
 part-same p q = record { inside = λ x k l m h. p .inside x k l m h ∙ q x k l m h; below = p .below; above = p .above }
 
+-- what lies within a groups of b bytes says that b is some
+pub positive : (a b i : ℕ) → i < a * b → 0 < b
+positive a b i l = some b (λ z. omega (arith, ap (λ (k : ℕ). a * k) z, mul-zero a))
+  where
+    some : (b : ℕ) → (b ≡ 0 → ⊥) → 0 < b
+    some b f = omega arith
+
 -- an element's place within a line, from a byte's
 module _ (n stride k : ℕ) (pos : 0 < stride) (l : k < n * stride) where
   pub element : k / stride < n
@@ -108,12 +115,6 @@ part-passed {d} {e} f src lines len out stride le p =
     (λ i l.
     let pos : 0 < out * stride = positive lines (out * stride) i l in
     ap (λ (j : ℕ). getD e j 0) (sym (zero-add i)) ∙ part-run pos p .inside i l)
-  where
-    positive : (a b i : ℕ) → i < a * b → 0 < b
-    positive a b i l = some b (λ z. omega (arith, ap (λ (k : ℕ). a * k) z, mul-zero a))
-      where
-        some : (b : ℕ) → (b ≡ 0 → ⊥) → 0 < b
-        some b f = omega arith
 
 -- the byte that a pass makes of lane k at element x of line y
 pub passed-at : (f : Pass) (src : List ℕ) (lines len out stride y x k : ℕ) → y < lines → x < out → k < stride →
