@@ -166,6 +166,18 @@ pub fn convolve_lines(
     }
 }
 
+// The rows of a level. Rows of one pixel are taken as one line of one element, so that the lanes are filled.
+fn convolve_rows(src: &[u8], dst: &mut [u8], w: usize, h: usize, weights: &[f32], mode: EdgeMode)
+    requires { ⌜ 0 < h ⌝ ∗ ⌜ Lines (now src) (now dst) (now weights) h w 4 ⌝ }
+    ensures { λ _. ⌜ now (dst .exit) ≡ passed (convolve mode (now (weights .entry))) (now (src .entry)) h w w 4 ⌝ }
+{
+    if w == 1 {
+        convolve_lines(src, dst, 1, 1, h * 4, weights, mode);
+    } else {
+        convolve_lines(src, dst, h, w, 4, weights, mode);
+    }
+}
+
 // A level convolved: rows to scratch, then columns back.
 pub fn convolve_level(
     picture: &mut [u8],
@@ -179,6 +191,6 @@ pub fn convolve_level(
 {
     let w = s.width();
     let h = s.height();
-    convolve_lines(picture, scratch, h, w, 4, weights, mode);
+    convolve_rows(picture, scratch, w, h, weights, mode);
     convolve_lines(scratch, picture, 1, h, 4 * w, weights, mode);
 }

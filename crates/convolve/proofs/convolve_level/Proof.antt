@@ -24,20 +24,22 @@ rows-size s w h n ew eh e = rw (ew, eh) (e ∙ omega (arith, mul-comm (s .w) (s 
 cols-size : (s : LevelSize) (w h n : ℕ) → w ≡ s .w → h ≡ s .h → n ≡ levelBytes s → n ≡ 1 * (h * (4 * w))
 cols-size s w h n ew eh e = rw (ew, eh) (e ∙ omega (arith, mul-comm (s .w) (s .h), mul-left-comm (s .h) 4 (s .w), one-mul (s .h * (4 * s .w))))
 
-convolve-lines-requires : tie.Need-convolve-lines-requires
-convolve-lines-requires c κs =
+convolve-rows-requires : tie.Need-convolve-rows-requires
+convolve-rows-requires c κs =
     let t = c .before .before in
     let s = t .before .before .before .before .before in
     let ew = t .before .width .ensures in
     let eh = t .height .ensures in
-    let size = rows-size (s .args .s) (t .before .width .result) (t .height .result) in
-    record {
-      kernel = s .pre .1 .1 .1;
-      len-high = omega (arith, ew, s .pre .0 .w-high);
-      stride-low = omega arith;
-      src-size = size _ ew eh (s .pre .1 .0);
-      dst-size = size _ ew eh (s .pre .1 .1 .0);
-    }
+    let size = rows-size (s .args .s) (t .before .width .result) (t .height .result) in (
+      omega (arith, eh, s .pre .0 .h-low),
+      record {
+        kernel = s .pre .1 .1 .1;
+        len-high = omega (arith, ew, s .pre .0 .w-high);
+        stride-low = omega arith;
+        src-size = size _ ew eh (s .pre .1 .0);
+        dst-size = size _ ew eh (s .pre .1 .1 .0);
+      },
+    )
 
 mul-convolve-lines : tie.Need-mul-convolve-lines
 mul-convolve-lines c =
@@ -45,8 +47,8 @@ mul-convolve-lines c =
     let s = w .before .before .before .before in
     omega (arith, w .width .ensures, s .pre .0 .w-high, room-is)
 
-convolve-lines-requires-2 : tie.Need-convolve-lines-requires-2
-convolve-lines-requires-2 c κs =
+convolve-lines-requires : tie.Need-convolve-lines-requires
+convolve-lines-requires c κs =
     let r = c .before .before .before .before in
     let t = r .before .before .before in
     let s = t .before .before .before .before .before in
@@ -57,7 +59,7 @@ convolve-lines-requires-2 c κs =
       kernel = s .pre .1 .1 .1;
       len-high = omega (arith, eh, s .pre .0 .h-high);
       stride-low = omega (arith, ew, s .pre .0 .w-low);
-      src-size = size _ ew eh (r .convolve-lines .kept .1 .0 ∙ s .pre .1 .1 .0);
+      src-size = size _ ew eh (r .convolve-rows .kept .1 .0 ∙ s .pre .1 .1 .0);
       dst-size = size _ ew eh (s .pre .1 .0);
     }
 
@@ -72,7 +74,7 @@ returns c =
     let t = r .before .before .before in
     let s = t .before .before .before .before .before in
     let a = s .args in
-    level-is (convolve (a .mode) (now (a .weights))) (convolve-local (a .mode) (now (a .weights))) (a .s) (s .pre .0) _ _ (now (a .picture)) _ _ (t .before .width .ensures) (t .height .ensures) (r .convolve-lines .ensures) (q .convolve-lines2 .ensures)
+    level-is (convolve (a .mode) (now (a .weights))) (convolve-local (a .mode) (now (a .weights))) (a .s) (s .pre .0) _ _ (now (a .picture)) _ _ (t .before .width .ensures) (t .height .ensures) (r .convolve-rows .ensures) (q .convolve-lines .ensures)
 
 pub convolve-level-spec : {M : Type 1} → statement M
 convolve-level-spec =
@@ -80,9 +82,9 @@ convolve-level-spec =
     (tie.spec
     (λ c κs. search needs)
     (λ c κs. search needs)
-    convolve-lines-requires
+    convolve-rows-requires
     mul-convolve-lines
-    convolve-lines-requires-2
+    convolve-lines-requires
     (λ c. search needs)
     (λ c. search needs)
     returns)
