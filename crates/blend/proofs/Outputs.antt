@@ -1,7 +1,10 @@
 -- An output of a pass is what stands at four places, blended.
 use mathlib.Core.Path.{_≡_, refl}
-use Prim.Native.Nat.{ℕ, _+_, _-_, _*_, _/_, _%_, _<_}
+use mathlib.Core.Bool.{cond}
+use Prim.Native.Nat.{ℕ, zero, suc, _+_, _-_, _*_, _/_, _%_, _<_}
+use native.Mathlib.Nat.{add-zero}
 use native.Mathlib.Omega.{arith}
+use lib.Dec.{eqb}
 use borrow.Author.Tests.{eq-eqb}
 use Rattle.picture.specs.Planes.{Line}
 use Rattle.picture.specs.declared.EdgeMode.{EdgeMode}
@@ -11,6 +14,30 @@ use Rattle.passes.specs.Passes.{halve, double}
 use Rattle.blend.specs.Blend.{mix, mixAt}
 use Rattle.blend.proofs.Places.{inside}
 
+-- of the samples
+module _ (mode : EdgeMode) (s : ℕ) (line : Line) where
+  pub halves : (x : ℕ) →
+      mix (sample mode s line (2 * x) 1) (sample mode s line (2 * x) 0) (sample mode s line (2 * x + 1) 0) (sample mode s line (2 * x + 2) 0) ≡ halve mode s line x
+  unfolding halve
+  halves x = refl
+
+  -- the sample before x for an even output, the one after it for an odd one
+  pub doubles : (y : ℕ) →
+      let far = sample mode s line (y / 2 + y % 2) (1 - y % 2) in
+      let near = sample mode s line (y / 2) 0 in
+      mix far near near far ≡ double mode s line y
+  unfolding double
+  doubles y = by (y / 2) (y % 2) (omega arith)
+    where
+      by : (x r : ℕ) → r < 2 →
+          let far = sample mode s line (x + r) (1 - r) in
+          let near = sample mode s line x 0 in
+          mix far near near far ≡ cond (eqb r 0) ((sample mode s line x 1 + 3 * near + 2) / 4) ((3 * near + sample mode s line (x + 1) 0 + 2) / 4)
+      by x zero l = rw add-zero (omega arith)
+      by x (suc zero) l = omega arith
+      by x (suc (suc r)) l = absurd (omega arith)
+
+-- of the places
 module _ (mode : EdgeMode) (s x : ℕ) (line : Line) {a b c d : At} where
   pub halved : a ≡ place mode s (2 * x) 1 → b ≡ place mode s (2 * x) 0 → c ≡ place mode s (2 * x + 1) 0 → d ≡ place mode s (2 * x + 2) 0 →
       mixAt a b c d line ≡ halve mode s line x

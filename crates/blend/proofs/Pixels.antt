@@ -1,31 +1,62 @@
 -- Laws of pixels as bytes.
-use mathlib.Core.Path.{_≡_, refl}
+use mathlib.Core.Path.{_≡_, refl, _∙_}
 use mathlib.Core.List.{List}
 use Prim.Native.Nat.{ℕ, zero, suc, _+_, _*_, _≤_, _<_}
 use native.Mathlib.Nat.{add-zero}
 use native.Mathlib.Omega.{arith}
 use lib.ListN.{length, set, length-set}
+use Rattle.picture.specs.declared.EdgeMode.{EdgeMode}
 use Rattle.picture.specs.declared.Pixel.{Pixel}
+use Rattle.edges.specs.Edges.{place, sample}
+use Rattle.edges.specs.declared.At.the-variants.{Inside, Outside}
 use Rattle.passes.specs.Written.{lane, Run}
 use Rattle.passes.proofs.Written.{run-none, run-more}
 use Rattle.blend.specs.Blend.{mix}
-use Rattle.blend.specs.Pixels.{byteOf, pixelAt, mixPixels}
+use Rattle.blend.specs.Pixels.{byteOf, pixelAt, pixelOf, samplePixel, mixPixels}
 
--- lane k of four blended pixels of a row is that lane of each, blended
-module _ (src : List ℕ) (start : ℕ) {p q r s m : Pixel} (a b c d : ℕ)
-    (ep : p ≡ pixelAt src (start + a * 4)) (eq : q ≡ pixelAt src (start + b * 4)) (er : r ≡ pixelAt src (start + c * 4)) (es : s ≡ pixelAt src (start + d * 4)) (em : m ≡ mixPixels p q r s) where
-  pub pixels-mix : (k : ℕ) → k < 4 → byteOf m k ≡ mix (lane src start 4 k a) (lane src start 4 k b) (lane src start 4 k c) (lane src start 4 k d)
-  pixels-mix k l = rw (em, ep, eq, er, es) (each k l)
+-- byte k of four blended pixels is that byte of each, blended
+module _ {p q r s m : Pixel} (a b c d : ℕ → ℕ) (ep : p ≡ pixelOf a) (eq : q ≡ pixelOf b) (er : r ≡ pixelOf c) (es : s ≡ pixelOf d) (em : m ≡ mixPixels p q r s) where
+  pub bytes-mix : (k : ℕ) → k < 4 → byteOf m k ≡ mix (a k) (b k) (c k) (d k)
+  bytes-mix k l = rw (em, ep, eq, er, es) (each k l)
     where
-      at : ℕ → Pixel
-      at i = pixelAt src (start + i * 4)
-
-      each : (k : ℕ) → k < 4 → byteOf (mixPixels (at a) (at b) (at c) (at d)) k ≡ mix (lane src start 4 k a) (lane src start 4 k b) (lane src start 4 k c) (lane src start 4 k d)
-      each zero l = simp add-zero
+      each : (k : ℕ) → k < 4 → byteOf (mixPixels (pixelOf a) (pixelOf b) (pixelOf c) (pixelOf d)) k ≡ mix (a k) (b k) (c k) (d k)
+      each zero l = refl
       each (suc zero) l = refl
       each (suc (suc zero)) l = refl
       each (suc (suc (suc zero))) l = refl
       each (suc (suc (suc (suc k)))) l = absurd (omega arith)
+
+module _ (src : List ℕ) (start : ℕ) where
+  -- byte k of pixel i of a row is its lane k
+  pub pixel-lanes : (i : ℕ) → pixelAt src (start + i * 4) ≡ pixelOf (λ k. lane src start 4 k i)
+  pixel-lanes i = simp add-zero
+
+  -- lane k of four blended pixels of a row is that lane of each, blended
+  pub pixels-mix : {p q r s m : Pixel} (a b c d : ℕ) →
+      p ≡ pixelAt src (start + a * 4) → q ≡ pixelAt src (start + b * 4) → r ≡ pixelAt src (start + c * 4) → s ≡ pixelAt src (start + d * 4) → m ≡ mixPixels p q r s →
+      (k : ℕ) → k < 4 → byteOf m k ≡ mix (lane src start 4 k a) (lane src start 4 k b) (lane src start 4 k c) (lane src start 4 k d)
+  pixels-mix a b c d ep eq er es =
+      bytes-mix _ _ _ _ (ep ∙ pixel-lanes a) (eq ∙ pixel-lanes b) (er ∙ pixel-lanes c) (es ∙ pixel-lanes d)
+
+-- byte k of four blended pixels that coordinates read is that of their samples, blended
+module _ (mode : EdgeMode) (len : ℕ) (src : List ℕ) (start : ℕ) where
+  abbrev byteAt : ℕ → ℕ → ℕ → ℕ
+  byteAt c d k = sample mode len (lane src start 4 k) c d
+
+  pub samples-mix : {p q r s m : Pixel} (cp dp cq dq cr dr cs ds : ℕ) →
+      p ≡ pixelOf (byteAt cp dp) → q ≡ pixelOf (byteAt cq dq) → r ≡ pixelOf (byteAt cr dr) → s ≡ pixelOf (byteAt cs ds) → m ≡ mixPixels p q r s →
+      (k : ℕ) → k < 4 → byteOf m k ≡ mix (byteAt cp dp k) (byteAt cq dq k) (byteAt cr dr k) (byteAt cs ds k)
+  samples-mix cp dp cq dq cr dr cs ds = bytes-mix (byteAt cp dp) (byteAt cq dq) (byteAt cr dr) (byteAt cs ds)
+
+-- the pixel that a coordinate reads is the one at its place
+module _ (mode : EdgeMode) (len : ℕ) (src : List ℕ) (start c d : ℕ) where
+  pub sampled-inside : (i : ℕ) → place mode len c d ≡ Inside i → pixelAt src (start + i * 4) ≡ samplePixel mode len src start c d
+  unfolding sample
+  sampled-inside i e = rw e (pixel-lanes src start i)
+
+  pub sampled-outside : place mode len c d ≡ Outside → pixelOf (λ _. 0) ≡ samplePixel mode len src start c d
+  unfolding sample
+  sampled-outside e = rw e
 
 -- a pixel's bytes stored one after another
 pub pixel-run : (d : List ℕ) (o : ℕ) (p : Pixel) → o + 4 ≤ length d →

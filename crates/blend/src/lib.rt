@@ -7,7 +7,7 @@ ghost use Rattle.edges.specs.Edges.{place, Reach};
 ghost use Rattle.passes.specs.Passes.{halve, double};
 ghost use Rattle.passes.specs.Written.{lane, Run};
 ghost use Rattle.blend.specs.Blend.{mixAt, startOf, tapOf, Blendable};
-ghost use Rattle.blend.specs.Pixels.{byteOf, pixelAt, mixPixels};
+ghost use Rattle.blend.specs.Pixels.{byteOf, pixelAt, samplePixel, mixPixels};
 ghost use Rattle.blend.specs.Made.{Room, MadeInside};
 use edges::At;
 use edges::extend;
@@ -111,6 +111,23 @@ fn read_pixel(src: &[u8], start: usize, i: usize) -> Pixel
     }
 }
 
+// The pixel of a row of len pixels that the coordinate c - d reads: four zeros where there is none.
+fn sample_pixel(src: &[u8], start: usize, len: usize, c: usize, d: usize, mode: EdgeMode) -> Pixel
+    requires { ⌜ Reach len c d × (start + len * 4 ≤ length (now src)) ⌝ }
+    ensures { λ r. ⌜ r ≡ samplePixel mode len (now (src .entry)) start c d ⌝ }
+{
+    let p = find_place(c, d, len, mode);
+    match p {
+        At::Inside(i) => read_pixel(src, start, i),
+        At::Outside => Pixel {
+            r: 0,
+            g: 0,
+            b: 0,
+            a: 0,
+        },
+    }
+}
+
 // Four pixels blended, channel by channel.
 fn blend_pixels(p: Pixel, q: Pixel, r: Pixel, s: Pixel) -> Pixel
     ensures { λ m. ⌜ m ≡ mixPixels p q r s ⌝ }
@@ -179,6 +196,47 @@ pub fn double_element(
         let c = find_place(x + 1, 0, len, mode);
         blend_element(src, c, b, b, c, start, stride, dst, o);
     }
+}
+
+// Output x of a row, halved, by pixels: a place's bytes go from one function to the next, and not the place.
+pub fn halve_end(
+    src: &[u8],
+    start: usize,
+    len: usize,
+    dst: &mut [u8],
+    o: usize,
+    x: usize,
+    mode: EdgeMode,
+)
+    requires { ⌜ (x < 2 * sideRoom) × Room (now src) (now dst) start 4 len o 1 ⌝ }
+    ensures { λ _. ⌜ Run (now (dst .entry)) (now (dst .exit)) o 4 (λ k. halve mode len (lane (now (src .entry)) start 4 k) x) ⌝ }
+{
+    let at = 2 * x;
+    let p = sample_pixel(src, start, len, at, 1, mode);
+    let q = sample_pixel(src, start, len, at, 0, mode);
+    let r = sample_pixel(src, start, len, at + 1, 0, mode);
+    let s = sample_pixel(src, start, len, at + 2, 0, mode);
+    write_pixel(dst, o, 0, blend_pixels(p, q, r, s));
+}
+
+// Output y of a row, doubled, by pixels: the one at x = y / 2, and the one before it where y is even, after it where y is odd.
+pub fn double_end(
+    src: &[u8],
+    start: usize,
+    len: usize,
+    dst: &mut [u8],
+    o: usize,
+    y: usize,
+    mode: EdgeMode,
+)
+    requires { ⌜ (y < 2 * sideRoom) × Room (now src) (now dst) start 4 len o 1 ⌝ }
+    ensures { λ _. ⌜ Run (now (dst .entry)) (now (dst .exit)) o 4 (λ k. double mode len (lane (now (src .entry)) start 4 k) y) ⌝ }
+{
+    let x = y / 2;
+    let odd = y % 2;
+    let p = sample_pixel(src, start, len, x + odd, 1 - odd, mode);
+    let q = sample_pixel(src, start, len, x, 0, mode);
+    write_pixel(dst, o, 0, blend_pixels(p, q, q, p));
 }
 
 // Output x of a row, halved, whose samples lie inside.
