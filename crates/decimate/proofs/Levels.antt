@@ -27,9 +27,23 @@ rows-bytes w h = omega (arith, mul-assoc h w 4, mul-comm h w)
 cols-bytes : (w h : ℕ) → bytesOf w h ≡ 1 * (h * (4 * w))
 cols-bytes w h = omega (arith, mul-left-comm h 4 w, mul-comm h w)
 
-local : (kind : Resize) (mode : EdgeMode) → Local (passOf kind mode)
+-- either pass looks only at its line
+pub local : (kind : Resize) (mode : EdgeMode) → Local (passOf kind mode)
 local Halve mode = halve-local mode
 local Double mode = double-local mode
+
+-- h rows of one pixel that stay so are one line of one element
+pub column-lines : {kind : Resize} {src dst : List ℕ} {h : ℕ} → Lines kind src dst h 1 1 4 → Lines kind src dst 1 1 1 (h * 4)
+column-lines r =
+    record {
+      some = omega arith;
+      stride-low = omega (arith, r .some);
+      len-low = omega arith;
+      len-high = r .len-high;
+      makes = r .makes;
+      src-length = omega (arith, r .src-length);
+      dst-length = omega (arith, r .dst-length);
+    }
 
 module _ {kind : Resize} {picture scratch : List ℕ} {s t : LevelSize} (r : Levels kind picture scratch s t) where
   pub rows-lines : Lines kind (take (levelBytes s) picture) (take (s .h * (t .w * 4)) scratch) (s .h) (s .w) (t .w) 4

@@ -10,8 +10,10 @@ ghost use Rattle.blend.specs.Made.{Room, Made, MadeInside};
 ghost use Rattle.decimate.specs.Resize.{passOf, Makes, innerFrom, innerTo};
 ghost use Rattle.decimate.specs.Room.{Lines, Levels, Buffers};
 use blend::double_element;
+use blend::double_end;
 use blend::double_pixel;
 use blend::halve_element;
+use blend::halve_end;
 use blend::halve_pixel;
 use picture::EdgeMode;
 use picture::LevelSize;
@@ -62,6 +64,48 @@ fn resize_part(
     let mut y: usize = from;
     while y < to {
         resize_element(src, start, stride, len, dst, o + y * stride, y, mode, kind);
+        y += 1;
+    }
+}
+
+// Output y of a row of len pixels, by kind.
+fn resize_end(
+    src: &[u8],
+    start: usize,
+    len: usize,
+    dst: &mut [u8],
+    o: usize,
+    y: usize,
+    mode: EdgeMode,
+    kind: Resize,
+)
+    requires { ⌜ (y < 2 * sideRoom) × Room (now src) (now dst) start 4 len o 1 ⌝ }
+    ensures { λ _. ⌜ Run (now (dst .entry)) (now (dst .exit)) o 4 (λ k. passOf kind mode len (lane (now (src .entry)) start 4 k) y) ⌝ }
+{
+    match kind {
+        Resize::Halve => halve_end(src, start, len, dst, o, y, mode),
+        Resize::Double => double_end(src, start, len, dst, o, y, mode),
+    }
+}
+
+// Outputs `from` up to `to` of a row of len pixels.
+fn resize_ends(
+    src: &[u8],
+    start: usize,
+    len: usize,
+    dst: &mut [u8],
+    o: usize,
+    from: usize,
+    to: usize,
+    mode: EdgeMode,
+    kind: Resize,
+)
+    requires { ⌜ (from ≤ to) × (to ≤ 2 * sideRoom) × Room (now src) (now dst) start 4 len o to ⌝ }
+    ensures { λ _. ⌜ Made (passOf kind mode) (now (src .entry)) (now (dst .entry)) (now (dst .exit)) start 4 len o from to ⌝ }
+{
+    let mut y: usize = from;
+    while y < to {
+        resize_end(src, start, len, dst, o + y * 4, y, mode, kind);
         y += 1;
     }
 }
@@ -138,9 +182,9 @@ fn resize_row(
 {
     let from = inner_from(kind);
     let to = inner_to(len, kind);
-    resize_part(src, start, 4, len, dst, o, 0, from, mode, kind);
+    resize_ends(src, start, len, dst, o, 0, from, mode, kind);
     resize_inner(src, start, len, dst, o, kind);
-    resize_part(src, start, 4, len, dst, o, to, out, mode, kind);
+    resize_ends(src, start, len, dst, o, to, out, mode, kind);
 }
 
 // A line: by the shorter way where it is a row of pixels.
@@ -163,6 +207,8 @@ fn resize_line(
             resize_row(src, start, len, dst, o, out, mode, kind);
             return;
         }
+        resize_ends(src, start, len, dst, o, 0, out, mode, kind);
+        return;
     }
     resize_part(src, start, stride, len, dst, o, 0, out, mode, kind);
 }
@@ -191,6 +237,28 @@ pub fn resize_lines(
     }
 }
 
+// Each of h rows of w pixels made one of v pixels. Rows of one pixel that stay so are one element of all their bytes.
+fn resize_rows(
+    src: &[u8],
+    dst: &mut [u8],
+    w: usize,
+    h: usize,
+    v: usize,
+    mode: EdgeMode,
+    kind: Resize,
+)
+    requires { ⌜ Lines kind (now src) (now dst) h w v 4 ⌝ }
+    ensures { λ _. ⌜ now (dst .exit) ≡ passed (passOf kind mode) (now (src .entry)) h w v 4 ⌝ }
+{
+    if w == 1 {
+        if v == 1 {
+            resize_lines(src, dst, 1, 1, 1, h * 4, mode, kind);
+            return;
+        }
+    }
+    resize_lines(src, dst, h, w, v, 4, mode, kind);
+}
+
 // A level of size s made one of size t: rows to scratch, then columns back.
 fn resize_level(
     picture: &mut [u8],
@@ -210,13 +278,12 @@ fn resize_level(
     let before = s.bytes();
     let after = t.bytes();
     let between = h * (v * 4);
-    resize_lines(
+    resize_rows(
         &picture[..before],
         &mut scratch[..between],
-        h,
         w,
+        h,
         v,
-        4,
         mode,
         kind,
     );

@@ -1,9 +1,15 @@
 -- A row of pixels goes the shorter way, and every other line by its elements.
+use Prim.Native.Nat.{_*_, _≤_}
 use native.Mathlib.Omega.{arith}
 use borrow.Author.Needs.{needs}
+use Rattle.picture.specs.Sizes.{sideRoom}
 use Rattle.decimate.proofs.Sizes.{out-high}
 use Rattle.decimate.proofs.resize_line.Statement.{statement}
 use Rattle.decimate.proofs.resize_line.Tie as tie
+
+-- the line has room for all its outputs
+all : (st : tie.Start) → st .args .out ≤ 2 * sideRoom
+all st = out-high (st .args .kind) (st .args .len) (st .args .out) (st .pre .1 .len-high) (st .pre .0)
 
 resize-row-requires : tie.Need-resize-row-requires
 resize-row-requires c κs =
@@ -18,19 +24,40 @@ returns c =
     let e = c .before .before in
     rw (e .before .before .before .if1 .taken) (e .resize-row .ensures)
 
-resize-part-requires : tie.Need-resize-part-requires
-resize-part-requires c κs =
-    let st = c .before .before .before .before in
-    let a = st .args in
-    (omega arith, out-high (a .kind) (a .len) (a .out) (st .pre .1 .len-high) (st .pre .0), st .pre .1)
+resize-ends-requires : tie.Need-resize-ends-requires
+resize-ends-requires c κs =
+    let st = c .before .before .before .before .before in
+    (omega arith, all st, rw (c .before .before .if1 .taken) at (st .pre .1))
 
 same-length-2 : tie.Need-same-length-2
 same-length-2 c = search needs
 
 returns-2 : tie.Need-returns-2
-returns-2 c = search needs
+returns-2 c =
+    let e = c .before .before in
+    rw (e .before .before .before .if1 .taken) (e .resize-ends .ensures)
+
+resize-part-requires : tie.Need-resize-part-requires
+resize-part-requires c κs =
+    let st = c .before .before .before .before in
+    (omega arith, all st, st .pre .1)
+
+same-length-3 : tie.Need-same-length-3
+same-length-3 c = search needs
+
+returns-3 : tie.Need-returns-3
+returns-3 c = search needs
 
 pub resize-line-spec : {M : Type 1} → statement M
 resize-line-spec =
     tie.close
-    (tie.spec resize-row-requires same-length returns resize-part-requires same-length-2 returns-2)
+    (tie.spec
+    resize-row-requires
+    same-length
+    returns
+    resize-ends-requires
+    same-length-2
+    returns-2
+    resize-part-requires
+    same-length-3
+    returns-3)

@@ -1,40 +1,32 @@
 -- The outputs so far are a part of the line; each turn joins the next to it.
-use mathlib.Core.Path.{_≡_, refl}
-use Prim.Native.Nat.{_+_, _*_, _-_, _≤_}
+use Prim.Native.Nat.{_-_}
 use native.Mathlib.Omega.{arith}
-use lib.ListN.{length}
-use Rattle.passes.proofs.Written.{within, part-none, part-one, part-join}
-use Rattle.blend.specs.Made.{Made}
 use Rattle.decimate.specs.Resize.{passOf}
+use Rattle.decimate.proofs.Outputs.{SoFar, none-made, next-ends, next-room, one-more, all-made}
 use Rattle.decimate.proofs.resize_part.Statement.{statement}
 use Rattle.decimate.proofs.resize_part.Tie as tie
 
 abbrev Inv-loop : tie.InvT-loop
-Inv-loop src start stride len dst₀ o from to mode kind y₀ dst y =
-    (from ≤ y) × (y ≤ to) × (length dst ≡ length dst₀) × Made (passOf kind mode) src dst₀ dst start stride len o from y
+Inv-loop src start stride len dst₀ o from to mode kind y₀ dst y = SoFar (passOf kind mode) src dst₀ dst start stride len o from to y
 
 abbrev μ-loop : tie.MeasureT-loop
 μ-loop src start stride len dst₀ o from to mode kind y₀ dst y = to - y
 
 loop-holds : tie.Need-loop-holds Inv-loop μ-loop
-loop-holds c = (omega arith, omega arith, refl, part-none)
-
--- the element that a turn writes lies within dst
-room : (c : tie.After-resize-element-arg Inv-loop μ-loop) →
-    let a = c .before .before .before .before .before .args in
-    a .o + c .before .before .loop .y * a .stride + a .stride ≤ a .o + a .to * a .stride
-room c =
-    let a = c .before .before .before .before .before .args in
-    within (a .o) (a .stride) (c .before .before .loop .y) (a .to) (c .before .loop-test .taken)
+loop-holds c = none-made (c .before .before .pre .0)
 
 mul-resize-element : tie.Need-mul-resize-element Inv-loop μ-loop
-mul-resize-element c = omega (arith, room c)
+mul-resize-element c =
+    let g = c .before .before in omega (arith, next-ends (g .loop .inv) (g .before .before .before .pre .2) (c .before .loop-test .taken))
 
 add-resize-element : tie.Need-add-resize-element Inv-loop μ-loop
-add-resize-element c = omega (arith, room c)
+add-resize-element c =
+    let g = c .before .before in omega (arith, next-ends (g .loop .inv) (g .before .before .before .pre .2) (c .before .loop-test .taken))
 
 resize-element-requires : tie.Need-resize-element-requires Inv-loop μ-loop
-resize-element-requires c κs = omega (arith, room c)
+resize-element-requires c κs =
+    let g = c .before .before in
+    (omega arith, next-room (g .loop .inv) (g .before .before .before .pre .2) (c .before .loop-test .taken))
 
 add-y : tie.Need-add-y Inv-loop μ-loop
 add-y c = omega arith
@@ -45,17 +37,14 @@ loop-less c = omega arith
 loop-again : tie.Need-loop-again Inv-loop μ-loop
 loop-again c =
     let e = c .before .before in
-    let l = e .before .before .before .loop .inv in
-    (omega arith, omega arith, omega arith, part-join (l .0) (omega arith) (l .3) (part-one (e .resize-element .ensures)))
+    let t = e .before .before in
+    one-more (t .before .loop .inv) (t .loop-test .taken) (e .resize-element .kept .1 .1 .1 .1 .0) (e .resize-element .ensures)
 
 same-length : tie.Need-same-length Inv-loop μ-loop
-same-length c = c .before .loop .inv .2
+same-length c = c .before .loop .inv .same
 
 returns : tie.Need-returns Inv-loop μ-loop
-returns c =
-    let a = c .before .before .before .before .args in
-    let e : c .before .loop .y ≡ a .to = omega arith in
-    rw e at (c .before .loop .inv .3)
+returns c = all-made (c .before .loop .inv) (omega arith)
 
 pub resize-part-spec : {M : Type 1} → statement M
 resize-part-spec =

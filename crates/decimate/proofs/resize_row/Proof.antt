@@ -25,16 +25,16 @@ bounds c =
     rw (c .before .inner-from .ensures, c .inner-to .ensures)
     (f .0, f .1, out-high (a .kind) (a .len) (a .out) (st .pre .2 .len-high) (st .pre .1))
 
-resize-part-requires : tie.Need-resize-part-requires
-resize-part-requires c κs = omega (arith, bounds (c .before))
+resize-ends-requires : tie.Need-resize-ends-requires
+resize-ends-requires c κs = omega (arith, bounds (c .before))
 
 resize-inner-requires : tie.Need-resize-inner-requires
 resize-inner-requires c κs =
     let t = c .before .before .before .before .before in
     rw (← t .inner-to .ensures) (omega (arith, bounds t, c .before .before .before .before .before .before .before .before .before))
 
-resize-part-requires-2 : tie.Need-resize-part-requires-2
-resize-part-requires-2 c κs =
+resize-ends-requires-2 : tie.Need-resize-ends-requires-2
+resize-ends-requires-2 c κs =
     let t = c .before .before .before .before .before .before .before .before .before in
     omega (arith, bounds t, t .before .before .before .before)
 
@@ -50,9 +50,9 @@ returns c =
     let a = t .before .before .before .before .args in
     let b = bounds t in
     part-join (omega arith) (b .1)
-    (part-join (omega arith) (b .0) (p1 .resize-part .ensures)
+    (part-join (omega arith) (b .0) (p1 .resize-ends .ensures)
     (rw (← t .before .inner-from .ensures, ← t .inner-to .ensures) at (i .resize-inner .ensures (a .mode))))
-    (p2 .resize-part2 .ensures)
+    (p2 .resize-ends2 .ensures)
 
 pub resize-row-spec : {M : Type 1} → statement M
 resize-row-spec =
@@ -60,8 +60,8 @@ resize-row-spec =
     (tie.spec
     inner-from-requires
     inner-to-requires
-    resize-part-requires
+    resize-ends-requires
     resize-inner-requires
-    resize-part-requires-2
+    resize-ends-requires-2
     same-length
     returns)

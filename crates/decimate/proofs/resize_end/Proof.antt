@@ -1,0 +1,45 @@
+-- Each arm is the pass of its kind.
+use borrow.Author.Needs.{needs}
+use Rattle.decimate.proofs.resize_end.Statement.{statement}
+use Rattle.decimate.proofs.resize_end.Tie as tie
+
+enum-told : tie.Need-enum-told
+enum-told c = search needs
+
+halve-end-requires : tie.Need-halve-end-requires
+halve-end-requires c κs = search needs
+
+enum-told-2 : tie.Need-enum-told-2
+enum-told-2 c = search needs
+
+double-end-requires : tie.Need-double-end-requires
+double-end-requires c κs = search needs
+
+same-length : tie.Need-same-length
+same-length c = search needs
+
+returns : tie.Need-returns
+returns c =
+    let e = c .before .before in
+    simp (e .before .before .enum-told .given .1) (e .halve-end .ensures)
+
+same-length-2 : tie.Need-same-length-2
+same-length-2 c = search needs
+
+returns-2 : tie.Need-returns-2
+returns-2 c =
+    let e = c .before .before in
+    simp (e .before .before .enum-told2 .given .1) (e .double-end .ensures)
+
+pub resize-end-spec : {M : Type 1} → statement M
+resize-end-spec =
+    tie.close
+    (tie.spec
+    enum-told
+    halve-end-requires
+    enum-told-2
+    double-end-requires
+    same-length
+    returns
+    same-length-2
+    returns-2)
