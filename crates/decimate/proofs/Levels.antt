@@ -1,9 +1,12 @@
 -- A level as lines: h rows of pixels, and one line of rows; and the two passes over it, each into the front of a buffer.
 use mathlib.Core.Path.{_≡_, refl, sym, ap, _∙_}
+use mathlib.Core.Bool.{Bool, true, false, cond}
 use mathlib.Core.List.{List}
-use Prim.Native.Nat.{ℕ, _*_, _≤_}
+use Prim.Native.Nat.{ℕ, _+_, _*_, _≤_, _<_}
 use native.Mathlib.Nat.{mul-assoc, mul-comm, mul-left-comm, mul-le-mul}
 use native.Mathlib.Omega.{arith}
+use borrow.Author.Tests.{eqb-true}
+use lib.Dec.{eqb}
 use lib.ListN.{length, take}
 use lib.Seq.{length-take-le}
 use Rattle.picture.specs.Planes.{bytesOf}
@@ -11,13 +14,16 @@ use Rattle.picture.specs.Sizes.{half, halfLevel, levelBytes}
 use Rattle.picture.specs.declared.EdgeMode.{EdgeMode}
 use Rattle.picture.specs.declared.LevelSize.{LevelSize}
 use Rattle.picture.proofs.Sizes.{half-sized, half-fits}
+use Rattle.passes.specs.Passes.{Pass}
 use Rattle.passes.specs.Levels.{levelPass}
 use Rattle.passes.specs.Written.{passed}
 use Rattle.passes.proofs.Levels.{level-passed}
 use Rattle.passes.proofs.Local.{Local, halve-local, double-local}
+use Rattle.passes.proofs.OneWide.{one-wide}
 use Rattle.decimate.specs.declared.Resize.{Resize}
 use Rattle.decimate.specs.declared.Resize.the-variants.{Halve, Double}
-use Rattle.decimate.specs.Resize.{passOf}
+use Rattle.decimate.specs.declared.Rows.{Rows}
+use Rattle.decimate.specs.Resize.{passOf, rowsOf}
 use Rattle.decimate.specs.Room.{Lines, Levels, Buffers}
 
 -- a level's bytes are h rows of w pixels, and one line of h rows
@@ -28,26 +34,48 @@ cols-bytes : (w h : ℕ) → bytesOf w h ≡ 1 * (h * (4 * w))
 cols-bytes w h = omega (arith, mul-left-comm h 4 w, mul-comm h w)
 
 -- either pass looks only at its line
-pub local : (kind : Resize) (mode : EdgeMode) → Local (passOf kind mode)
+local : (kind : Resize) (mode : EdgeMode) → Local (passOf kind mode)
 local Halve mode = halve-local mode
 local Double mode = double-local mode
 
--- h rows of one pixel that stay so are one line of one element
-pub column-lines : {kind : Resize} {src dst : List ℕ} {h : ℕ} → Lines kind src dst h 1 1 4 → Lines kind src dst 1 1 1 (h * 4)
-column-lines r =
-    record {
-      some = omega arith;
-      stride-low = omega (arith, r .some);
-      len-low = omega arith;
-      len-high = r .len-high;
-      makes = r .makes;
-      src-length = omega (arith, r .src-length);
-      dst-length = omega (arith, r .dst-length);
-    }
+-- rows as lines: one to a row, or where each row is one pixel and stays so, one of one element
+module _ {w v : ℕ} (wl : 0 < w) (vl : 0 < v) (h : ℕ) where
+  rows-by : (P : Rows → Type 0) → (w ≡ 1 → v ≡ 1 → P (record { lines = 1; stride = h * 4 })) → P (record { lines = h; stride = 4 }) → P (rowsOf w h v)
+  rows-by P one all = by (eqb (w + v) 2) refl
+    where
+      by : (t : Bool) → eqb (w + v) 2 ≡ t → P (cond t (record { lines = 1; stride = h * 4 }) (record { lines = h; stride = 4 }))
+      by true e = let s : w + v ≡ 2 = eqb-true (w + v) 2 e in one (omega arith) (omega arith)
+      by false e = all
+
+  -- they are all of either buffer, ..
+  pub rows-fit : {kind : Resize} {src dst : List ℕ} → Lines kind src dst h w v 4 → Lines kind src dst (rowsOf w h v .lines) w v (rowsOf w h v .stride)
+  rows-fit {kind} {src} {dst} r =
+      rows-by (λ rows. Lines kind src dst (rows .lines) w v (rows .stride))
+      (λ ew ev.
+      record {
+        some = omega arith;
+        stride-low = omega (arith, r .some);
+        len-low = wl;
+        len-high = r .len-high;
+        makes = r .makes;
+        src-length = r .src-length ∙ rw ew (omega arith);
+        dst-length = r .dst-length ∙ rw ev (omega arith);
+      })
+      r
+
+  -- .. and what either way makes is the same
+  pub rows-same : (f : Pass) → Local f → (src : List ℕ) → passed f src (rowsOf w h v .lines) w v (rowsOf w h v .stride) ≡ passed f src h w v 4
+  rows-same f l src =
+      rows-by (λ rows. passed f src (rows .lines) w v (rows .stride) ≡ passed f src h w v 4)
+      (λ ew ev. rw (ew, ev) (sym (one-wide f l src h 4)))
+      refl
 
 module _ {kind : Resize} {picture scratch : List ℕ} {s t : LevelSize} (r : Levels kind picture scratch s t) where
-  pub rows-lines : Lines kind (take (levelBytes s) picture) (take (s .h * (t .w * 4)) scratch) (s .h) (s .w) (t .w) 4
+  pub rows-lines :
+      let rows = rowsOf (s .w) (s .h) (t .w) in
+      Lines kind (take (levelBytes s) picture) (take (s .h * (t .w * 4)) scratch) (rows .lines) (s .w) (t .w) (rows .stride)
   rows-lines =
+      rows-fit (r .s-sized .w-low) (r .t-sized .w-low) (s .h)
       record {
         some = r .s-sized .h-low;
         stride-low = omega arith;
@@ -72,12 +100,13 @@ module _ {kind : Resize} {picture scratch : List ℕ} {s t : LevelSize} (r : Lev
 
   -- the columns of what the rows made
   pub level-made : (mode : EdgeMode) {mid last : List ℕ} →
-      mid ≡ passed (passOf kind mode) (take (levelBytes s) picture) (s .h) (s .w) (t .w) 4 →
+      mid ≡ passed (passOf kind mode) (take (levelBytes s) picture) (rowsOf (s .w) (s .h) (t .w) .lines) (s .w) (t .w) (rowsOf (s .w) (s .h) (t .w) .stride) →
       last ≡ passed (passOf kind mode) mid 1 (s .h) (t .h) (4 * t .w) →
       last ≡ levelPass (passOf kind mode) s t (take (levelBytes s) picture)
   level-made mode e f =
       f
-      ∙ ap (λ (l : List ℕ). passed (passOf kind mode) l 1 (s .h) (t .h) (4 * t .w)) e
+      ∙ ap (λ (l : List ℕ). passed (passOf kind mode) l 1 (s .h) (t .h) (4 * t .w))
+      (e ∙ rows-same (r .s-sized .w-low) (r .t-sized .w-low) (s .h) (passOf kind mode) (local kind mode) _)
       ∙ level-passed (passOf kind mode) (local kind mode) s t (r .s-sized) (take (levelBytes s) picture)
 
 -- what is between the two passes is no larger than the larger level

@@ -7,7 +7,7 @@ ghost use Rattle.passes.specs.Passes.{halve, double};
 ghost use Rattle.passes.specs.Written.{lane, passed, Run};
 ghost use Rattle.passes.specs.Levels.{levelPass};
 ghost use Rattle.blend.specs.Made.{Room, Made, MadeInside};
-ghost use Rattle.decimate.specs.Resize.{passOf, Makes, innerFrom, innerTo};
+ghost use Rattle.decimate.specs.Resize.{passOf, Makes, innerFrom, innerTo, rowsOf};
 ghost use Rattle.decimate.specs.Room.{Lines, Levels, Buffers};
 use blend::double_element;
 use blend::double_end;
@@ -22,6 +22,12 @@ use picture::LevelSize;
 pub enum Resize {
     Halve,
     Double,
+}
+
+// How rows are taken as lines.
+struct Rows {
+    lines: usize,
+    stride: usize,
 }
 
 // Output y of a line of len elements, by kind.
@@ -237,26 +243,22 @@ pub fn resize_lines(
     }
 }
 
-// Each of h rows of w pixels made one of v pixels. Rows of one pixel that stay so are one element of all their bytes.
-fn resize_rows(
-    src: &[u8],
-    dst: &mut [u8],
-    w: usize,
-    h: usize,
-    v: usize,
-    mode: EdgeMode,
-    kind: Resize,
-)
-    requires { ⌜ Lines kind (now src) (now dst) h w v 4 ⌝ }
-    ensures { λ _. ⌜ now (dst .exit) ≡ passed (passOf kind mode) (now (src .entry)) h w v 4 ⌝ }
+// h rows of w pixels that become v wide, as lines. No side is 0: where the two sum to 2, every row is one pixel and stays so, and all
+// rows are one element of one line.
+fn rows_of(w: usize, h: usize, v: usize) -> Rows
+    requires { ⌜ (w ≤ sideRoom) × (h ≤ sideRoom) × (v ≤ sideRoom) ⌝ }
+    ensures { λ r. ⌜ r ≡ rowsOf w h v ⌝ }
 {
-    if w == 1 {
-        if v == 1 {
-            resize_lines(src, dst, 1, 1, 1, h * 4, mode, kind);
-            return;
-        }
+    if w + v == 2 {
+        return Rows {
+            lines: 1,
+            stride: h * 4,
+        };
     }
-    resize_lines(src, dst, h, w, v, 4, mode, kind);
+    Rows {
+        lines: h,
+        stride: 4,
+    }
 }
 
 // A level of size s made one of size t: rows to scratch, then columns back.
@@ -278,12 +280,14 @@ fn resize_level(
     let before = s.bytes();
     let after = t.bytes();
     let between = h * (v * 4);
-    resize_rows(
+    let rows = rows_of(w, h, v);
+    resize_lines(
         &picture[..before],
         &mut scratch[..between],
+        rows.lines,
         w,
-        h,
         v,
+        rows.stride,
         mode,
         kind,
     );

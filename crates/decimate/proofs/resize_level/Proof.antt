@@ -54,14 +54,14 @@ between-fits m = rw (h-is m, v-is m) (m .before .before .before .before .before 
 
 -- what the rows made stands in the front of scratch
 front : (c : tie.After-slice-known3) →
-    let m = c .before .before .before .before .before in
+    let m = c .before .before .before .before .before .before in
     let n = m .before .before .before .before .height .result * (m .before .before .before .width2 .result * 4) in
-    let made = c .before .before .resize-rows .last .1 .0 in
+    let made = c .before .before .resize-lines .last .1 .0 in
     let all = made ++ drop n (now (m .before .before .before .before .before .before .before .before .args .scratch)) in
     (n ≤ length all) × (length (take n all) ≡ n) × (take n all ≡ made)
 front c =
-    let r = between-fits (c .before .before .before .before .before) in
-    let e = c .before .before .resize-rows .kept .1 .0 in
+    let r = between-fits (c .before .before .before .before .before .before) in
+    let e = c .before .before .resize-lines .kept .1 .0 in
     let m = e ∙ length-take-le _ _ r in
     let f = take-at _ _ _ m in
     (rw (length-front _ _ _ e) r, ap length f ∙ m, f)
@@ -72,42 +72,48 @@ mul-between c = omega (arith, room-is, v-is c, c .before .before .before .before
 mul-between-2 : tie.Need-mul-between-2
 mul-between-2 c = omega (arith, between-fits c, c .before .before .before .before .before .before .before .before .good .1 .0)
 
-slice-reshare-prefix-resize-rows : tie.Need-slice-reshare-prefix-resize-rows
-slice-reshare-prefix-resize-rows c = before-fits c
-
-slice-aggregate-resize-rows : tie.Need-slice-aggregate-resize-rows
-slice-aggregate-resize-rows c = sym (length-take-le _ _ (before-fits (c .before)))
-
-slice-relend-prefix-resize-rows : tie.Need-slice-relend-prefix-resize-rows
-slice-relend-prefix-resize-rows c = between-fits (c .before)
-
-slice-aggregate-resize-rows-2 : tie.Need-slice-aggregate-resize-rows-2
-slice-aggregate-resize-rows-2 c = sym (length-take-le _ _ (between-fits (c .before .before)))
-
-resize-rows-requires : tie.Need-resize-rows-requires
-resize-rows-requires c κs =
-    let m = c .before .before in rw (m .before .bytes .ensures, v-is m, h-is m, w-is m) (rows-lines (m .before .before .before .before .before .before .before .before .pre))
+rows-of-requires : tie.Need-rows-of-requires
+rows-of-requires c κs =
+    let p = c .before .before .before .before .before .before .before .before .pre in
+    rw (w-is c, h-is c, v-is c) (p .s-sized .w-high, p .s-sized .h-high, p .t-sized .w-high)
 
 slice-reshare-prefix-resize-lines : tie.Need-slice-reshare-prefix-resize-lines
-slice-reshare-prefix-resize-lines c = front c .0
+slice-reshare-prefix-resize-lines c = before-fits (c .before)
 
 slice-aggregate-resize-lines : tie.Need-slice-aggregate-resize-lines
-slice-aggregate-resize-lines c = sym (front (c .before) .1)
+slice-aggregate-resize-lines c = sym (length-take-le _ _ (before-fits (c .before .before)))
 
 slice-relend-prefix-resize-lines : tie.Need-slice-relend-prefix-resize-lines
-slice-relend-prefix-resize-lines c = after-fits (c .before .before .before .before .before .before)
+slice-relend-prefix-resize-lines c = between-fits (c .before .before)
 
 slice-aggregate-resize-lines-2 : tie.Need-slice-aggregate-resize-lines-2
-slice-aggregate-resize-lines-2 c = sym (length-take-le _ _ (after-fits (c .before .before .before .before .before .before .before)))
-
-mul-resize-lines : tie.Need-mul-resize-lines
-mul-resize-lines c =
-    let m = c .before .before .before .before .before .before .before in omega (arith, room-is, v-is m, m .before .before .before .before .before .before .before .before .pre .t-sized .w-high)
+slice-aggregate-resize-lines-2 c = sym (length-take-le _ _ (between-fits (c .before .before .before)))
 
 resize-lines-requires : tie.Need-resize-lines-requires
 resize-lines-requires c κs =
+    let m = c .before .before .before in
+    rw (m .before .bytes .ensures, c .before .before .rows-of .ensures, v-is m, h-is m, w-is m) (rows-lines (m .before .before .before .before .before .before .before .before .pre))
+
+slice-reshare-prefix-resize-lines-2 : tie.Need-slice-reshare-prefix-resize-lines-2
+slice-reshare-prefix-resize-lines-2 c = front c .0
+
+slice-aggregate-resize-lines-3 : tie.Need-slice-aggregate-resize-lines-3
+slice-aggregate-resize-lines-3 c = sym (front (c .before) .1)
+
+slice-relend-prefix-resize-lines-2 : tie.Need-slice-relend-prefix-resize-lines-2
+slice-relend-prefix-resize-lines-2 c = after-fits (c .before .before .before .before .before .before .before)
+
+slice-aggregate-resize-lines-4 : tie.Need-slice-aggregate-resize-lines-4
+slice-aggregate-resize-lines-4 c = sym (length-take-le _ _ (after-fits (c .before .before .before .before .before .before .before .before)))
+
+mul-resize-lines : tie.Need-mul-resize-lines
+mul-resize-lines c =
+    let m = c .before .before .before .before .before .before .before .before in omega (arith, room-is, v-is m, m .before .before .before .before .before .before .before .before .pre .t-sized .w-high)
+
+resize-lines-requires-2 : tie.Need-resize-lines-requires-2
+resize-lines-requires-2 c κs =
     let k = c .before .before in
-    let m = k .before .before .before .before .before in
+    let m = k .before .before .before .before .before .before in
     rw (m .bytes2 .ensures, u-is m, v-is m, h-is m) (cols-lines (m .before .before .before .before .before .before .before .before .pre) (rw (v-is m, h-is m) at (front k .1)))
 
 same-length : tie.Need-same-length
@@ -120,11 +126,11 @@ returns : tie.Need-returns
 returns c =
     let two = c .before .before in
     let k = two .before .before .before in
-    let m = k .before .before .before .before .before in
-    take-at _ _ _ (two .resize-lines .kept .1 .0 ∙ length-take-le _ _ (after-fits m) ∙ m .bytes2 .ensures)
+    let m = k .before .before .before .before .before .before in
+    take-at _ _ _ (two .resize-lines2 .kept .1 .0 ∙ length-take-le _ _ (after-fits m) ∙ m .bytes2 .ensures)
     ∙ level-made (m .before .before .before .before .before .before .before .before .pre) (m .before .before .before .before .before .before .before .before .args .mode)
-    (rw (m .before .bytes .ensures, w-is m, h-is m, v-is m) at (front k .2 ∙ k .before .before .resize-rows .ensures))
-    (rw (h-is m, v-is m, u-is m) at (two .resize-lines .ensures))
+    (rw (m .before .bytes .ensures, k .before .before .before .before .before .rows-of .ensures, w-is m, h-is m, v-is m) at (front k .2 ∙ k .before .before .resize-lines .ensures))
+    (rw (h-is m, v-is m, u-is m) at (two .resize-lines2 .ensures))
 
 pub resize-level-spec : {M : Type 1} → statement M
 resize-level-spec =
@@ -138,17 +144,18 @@ resize-level-spec =
     bytes-requires-2
     mul-between
     mul-between-2
-    slice-reshare-prefix-resize-rows
-    slice-aggregate-resize-rows
-    slice-relend-prefix-resize-rows
-    slice-aggregate-resize-rows-2
-    resize-rows-requires
+    rows-of-requires
     slice-reshare-prefix-resize-lines
     slice-aggregate-resize-lines
     slice-relend-prefix-resize-lines
     slice-aggregate-resize-lines-2
-    mul-resize-lines
     resize-lines-requires
+    slice-reshare-prefix-resize-lines-2
+    slice-aggregate-resize-lines-3
+    slice-relend-prefix-resize-lines-2
+    slice-aggregate-resize-lines-4
+    mul-resize-lines
+    resize-lines-requires-2
     same-length
     same-length-2
     returns)
