@@ -8,7 +8,7 @@ use native.Mathlib.Omega.{arith}
 use borrow.Author.Tests.{eqb-true}
 use lib.Dec.{eqb}
 use lib.ListN.{length, take}
-use lib.Seq.{length-take-le}
+use lib.Seq.{length-take-le, take-all}
 use Rattle.picture.specs.Planes.{bytesOf}
 use Rattle.picture.specs.Sizes.{half, halfLevel, levelBytes}
 use Rattle.picture.specs.declared.EdgeMode.{EdgeMode}
@@ -108,6 +108,10 @@ module _ {kind : Resize} {picture scratch : List ℕ} {s t : LevelSize} (r : Lev
       ∙ ap (λ (l : List ℕ). passed (passOf kind mode) l 1 (s .h) (t .h) (4 * t .w))
       (e ∙ rows-same (r .s-sized .w-low) (r .t-sized .w-low) (s .h) (passOf kind mode) (local kind mode) _)
       ∙ level-passed (passOf kind mode) (local kind mode) s t (r .s-sized) (take (levelBytes s) picture)
+
+-- a list of n bytes is its own first n
+pub whole : (n : ℕ) (l : List ℕ) → length l ≡ n → take n l ≡ l
+whole n l e = take-all n l (omega arith)
 
 -- what is between the two passes is no larger than the larger level
 between : (w h v u : ℕ) → v ≤ w → u ≤ h → u * (v * 4) ≤ bytesOf w h

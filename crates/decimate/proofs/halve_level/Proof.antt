@@ -1,13 +1,11 @@
 -- The whole picture is the level, and its half's bytes come to stand in front.
 use mathlib.Core.Path.{ap, _∙_}
-use native.Mathlib.Omega.{arith}
 use denote.Ref.{now}
-use lib.Seq.{take-all}
 use borrow.Author.Needs.{needs}
 use Rattle.picture.specs.Sizes.{halfLevel, levelBytes}
 use Rattle.passes.specs.Passes.{halve}
 use Rattle.passes.specs.Levels.{levelPass}
-use Rattle.decimate.proofs.Levels.{halving}
+use Rattle.decimate.proofs.Levels.{whole, halving}
 use Rattle.decimate.proofs.halve_level.Statement.{statement}
 use Rattle.decimate.proofs.halve_level.Tie as tie
 
@@ -18,10 +16,10 @@ resize-level-requires : tie.Need-resize-level-requires
 resize-level-requires c κs = rw (c .half .ensures) (halving (c .before .before .before .before .before .pre))
 
 same-length : tie.Need-same-length
-same-length c = search needs
+same-length c = c .before .before .before .before .resize-level .kept .0
 
 same-length-2 : tie.Need-same-length-2
-same-length-2 c = search needs
+same-length-2 c = c .before .before .before .before .resize-level .kept .1 .0
 
 returns : tie.Need-returns
 returns c =
@@ -29,7 +27,7 @@ returns c =
     let st = e .before .before .before .before .before .before in
     let a = st .args in
     rw (e .before .half .ensures) at (e .resize-level .ensures)
-    ∙ ap (levelPass (halve (a .mode)) (a .s) (halfLevel (a .s))) (take-all (levelBytes (a .s)) (now (a .picture)) (omega (arith, st .pre .picture-length)))
+    ∙ ap (levelPass (halve (a .mode)) (a .s) (halfLevel (a .s))) (whole (levelBytes (a .s)) (now (a .picture)) (st .pre .picture-length))
 
 pub halve-level-spec : {M : Type 1} → statement M
 halve-level-spec =

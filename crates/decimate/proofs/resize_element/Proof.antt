@@ -7,16 +7,16 @@ enum-told : tie.Need-enum-told
 enum-told c = search needs
 
 halve-element-requires : tie.Need-halve-element-requires
-halve-element-requires c κs = search needs
+halve-element-requires c κs = c .before .before .before .before .before .pre
 
 enum-told-2 : tie.Need-enum-told-2
 enum-told-2 c = search needs
 
 double-element-requires : tie.Need-double-element-requires
-double-element-requires c κs = search needs
+double-element-requires c κs = c .before .before .before .before .before .pre
 
 same-length : tie.Need-same-length
-same-length c = search needs
+same-length c = c .before .before .halve-element .kept .1 .1 .1 .1 .0
 
 returns : tie.Need-returns
 returns c =
@@ -24,7 +24,7 @@ returns c =
     simp (e .before .before .enum-told .given .1) (e .halve-element .ensures)
 
 same-length-2 : tie.Need-same-length-2
-same-length-2 c = search needs
+same-length-2 c = c .before .before .double-element .kept .1 .1 .1 .1 .0
 
 returns-2 : tie.Need-returns-2
 returns-2 c =

@@ -7,16 +7,16 @@ enum-told : tie.Need-enum-told
 enum-told c = search needs
 
 halve-end-requires : tie.Need-halve-end-requires
-halve-end-requires c κs = search needs
+halve-end-requires c κs = c .before .before .before .before .before .pre
 
 enum-told-2 : tie.Need-enum-told-2
 enum-told-2 c = search needs
 
 double-end-requires : tie.Need-double-end-requires
-double-end-requires c κs = search needs
+double-end-requires c κs = c .before .before .before .before .before .pre
 
 same-length : tie.Need-same-length
-same-length c = search needs
+same-length c = c .before .before .halve-end .kept .1 .1 .1 .0
 
 returns : tie.Need-returns
 returns c =
@@ -24,7 +24,7 @@ returns c =
     simp (e .before .before .enum-told .given .1) (e .halve-end .ensures)
 
 same-length-2 : tie.Need-same-length-2
-same-length-2 c = search needs
+same-length-2 c = c .before .before .double-end .kept .1 .1 .1 .0
 
 returns-2 : tie.Need-returns-2
 returns-2 c =

@@ -1,7 +1,6 @@
 -- A row of pixels goes the shorter way, and every other line by its elements.
 use Prim.Native.Nat.{_*_, _≤_}
 use native.Mathlib.Omega.{arith}
-use borrow.Author.Needs.{needs}
 use Rattle.picture.specs.Sizes.{sideRoom}
 use Rattle.decimate.proofs.Sizes.{out-high}
 use Rattle.decimate.proofs.resize_line.Statement.{statement}
@@ -17,7 +16,7 @@ resize-row-requires c κs =
     (c .before .if2 .taken, st .pre .0, rw (c .before .before .if1 .taken) at (st .pre .1))
 
 same-length : tie.Need-same-length
-same-length c = search needs
+same-length c = c .before .before .resize-row .kept .1 .1 .1 .0
 
 returns : tie.Need-returns
 returns c =
@@ -30,7 +29,7 @@ resize-ends-requires c κs =
     (omega arith, all st, rw (c .before .before .if1 .taken) at (st .pre .1))
 
 same-length-2 : tie.Need-same-length-2
-same-length-2 c = search needs
+same-length-2 c = c .before .before .resize-ends .kept .1 .1 .1 .0
 
 returns-2 : tie.Need-returns-2
 returns-2 c =
@@ -43,10 +42,10 @@ resize-part-requires c κs =
     (omega arith, all st, st .pre .1)
 
 same-length-3 : tie.Need-same-length-3
-same-length-3 c = search needs
+same-length-3 c = c .before .before .resize-part .kept .1 .1 .1 .1 .0
 
 returns-3 : tie.Need-returns-3
-returns-3 c = search needs
+returns-3 c = c .before .before .resize-part .ensures
 
 pub resize-line-spec : {M : Type 1} → statement M
 resize-line-spec =

@@ -1,4 +1,5 @@
 -- The two ends and what lies between join to the whole row.
+use mathlib.Core.Path.{_∙_}
 use Prim.Native.Nat.{_*_, _≤_}
 use native.Mathlib.Omega.{arith}
 use borrow.Author.Needs.{needs}
@@ -39,7 +40,11 @@ resize-ends-requires-2 c κs =
     omega (arith, bounds t, t .before .before .before .before)
 
 same-length : tie.Need-same-length
-same-length c = search needs
+same-length c =
+    let p2 = c .before .before in
+    let i = p2 .before .before .before .before in
+    let p1 = i .before .before .before .before in
+    p2 .resize-ends2 .kept .1 .1 .1 .0 ∙ i .resize-inner .kept .1 .1 .1 .0 ∙ p1 .resize-ends .kept .1 .1 .1 .0
 
 returns : tie.Need-returns
 returns c =
