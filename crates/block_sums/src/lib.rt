@@ -13,7 +13,7 @@ pub const WHOLE: usize = 32;
 pub const LANES: usize = 128;
 
 // Outputs x up to x + m of a line, whose elements are taken whole.
-fn convolve_whole(
+pub fn convolve_whole(
     line: &mut [f32],
     acc: &mut [f32],
     src: &[u8],

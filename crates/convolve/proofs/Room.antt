@@ -3,13 +3,15 @@ use mathlib.Core.Path.{_≡_, ap}
 use mathlib.Core.List.{List}
 use mathlib.Core.Logic.{⊎-elim}
 use Prim.Native.Nat.{ℕ, _+_, _-_, _*_, _/_, _≤_, _<_, min}
-use native.Mathlib.Nat.{add-mul, mul-le-mul-right, le-div-iff-mul-le, div-mul-le-self}
+use native.Mathlib.Nat.{add-mul, mul-le-mul, mul-le-mul-right, le-div-iff-mul-le, div-mul-le-self}
 use native.Mathlib.Omega.{arith}
 use lib.Ieee.{Float}
 use lib.ListN.{length, replicate, length-replicate}
 use Rattle.picture.specs.Refusal.{maxTaps}
 use Rattle.passes.proofs.Written.{le-or-lt}
-use Rattle.block_sums.specs.Room.{whole, lanes, Buffers}
+use Rattle.block_sums.specs.Room.{Kernel, whole, lanes, Buffers}
+use Rattle.block_sums.proofs.Taps.{most-taps}
+use Rattle.convolve.specs.Lines.{short}
 
 -- buffers of the same sizes, and no more elements
 pub room-still : {line line′ acc acc′ : List Float} {stride most m : ℕ} → Buffers line acc stride most → length line′ ≡ length line → length acc′ ≡ length acc → 0 < m → m ≤ most →
@@ -23,13 +25,13 @@ room-still {stride = stride} {most = most} {m = m} b l a s h =
       strip = omega (arith, b .strip);
     }
 
--- small elements, at most 8 of them
-pub short-room : {v : Float} {stride : ℕ} → stride ≤ whole → Buffers (replicate 1280 v) (replicate 256 v) stride 8
+-- the small buffers have room for a few small elements, and what the taps add at their ends
+pub short-room : {weights : List Float} → Kernel weights → (m stride : ℕ) {l a : ℕ} → l ≡ 1280 → a ≡ 256 → m ≤ short → stride ≤ whole →
+    ((m + (length weights - 1)) * stride ≤ l) × (m * stride ≤ a)
 unfolding maxTaps
-short-room {v} h =
-    let l = length-replicate 1280 v in
-    let a = length-replicate 256 v in
-    record { some = omega arith; values = omega arith; sums = omega arith; strip = omega arith }
+short-room {weights} w m stride l a h r =
+    let k : m + (length weights - 1) ≤ 40 = omega (arith, most-taps w) in
+    (omega (arith, mul-le-mul k r), omega (arith, mul-le-mul h r))
 
 -- elements of any size, at most 1024 sums of whole ones
 pub long-room : {v : Float} {stride w : ℕ} → 0 < stride → w ≡ min stride whole → Buffers (replicate 8192 v) (replicate 1024 v) stride (1024 / w)

@@ -10,7 +10,12 @@ use Rattle.block_sums.specs.Room.{Kernel}
 -- lines one after the other, and as many bytes for what is made of them
 pub record Lines (src dst : List ℕ) (weights : List Float) (lines len stride : ℕ) : Type 0 where
   pub kernel : Kernel weights
+  pub len-low : 0 < len
   pub len-high : len ≤ sideRoom
   pub stride-low : 0 < stride
   pub src-size : length src ≡ lines * (len * stride)
   pub dst-size : length dst ≡ lines * (len * stride)
+
+-- lines of at most this many elements that are taken whole go in small buffers
+abbrev pub short : ℕ
+short = 8

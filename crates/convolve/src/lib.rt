@@ -8,7 +8,7 @@ ghost use Rattle.passes.specs.Levels.{levelPass};
 ghost use Rattle.passes.specs.Written.{passed};
 ghost use Rattle.block_sums.specs.Bytes.{lineByte};
 ghost use Rattle.block_sums.specs.Room.{Kernel, Source, whole, Buffers};
-ghost use Rattle.convolve.specs.Lines.{Lines};
+ghost use Rattle.convolve.specs.Lines.{Lines, short};
 use picture::EdgeMode;
 use picture::LevelSize;
 
@@ -17,7 +17,7 @@ const SUMS: usize = 1024;
 
 const LINE: usize = (SUMS / block_sums::WHOLE + picture::MAX_TAPS - 1) * block_sums::LANES;
 
-// Lines of at most this many elements go in small buffers, where the elements are taken whole.
+// Lines of at most this many elements that are taken whole go in small buffers.
 const SHORT: usize = 8;
 
 const SHORT_SUMS: usize = SHORT * block_sums::WHOLE;
@@ -84,7 +84,7 @@ fn each_line(
     }
 }
 
-// Lines of small elements in small buffers, which are soon zeroed.
+// Lines of a few small elements: each is one block, in small buffers that are soon zeroed.
 fn convolve_short(
     src: &[u8],
     dst: &mut [u8],
@@ -94,23 +94,30 @@ fn convolve_short(
     weights: &[f32],
     mode: EdgeMode,
 )
-    requires { ⌜ Lines (now src) (now dst) (now weights) lines len stride ⌝ ∗ ⌜ stride ≤ whole ⌝ }
+    requires { ⌜ Lines (now src) (now dst) (now weights) lines len stride ⌝ ∗ ⌜ (len ≤ short) × (stride ≤ whole) ⌝ }
     ensures { λ _. ⌜ now (dst .exit) ≡ passed (convolve mode (now (weights .entry))) (now (src .entry)) lines len len stride ⌝ }
 {
     let mut line = [0.0f32; SHORT_LINE];
     let mut acc = [0.0f32; SHORT_SUMS];
-    each_line(
-        &mut line,
-        &mut acc,
-        src,
-        dst,
-        lines,
-        len,
-        stride,
-        SHORT,
-        weights,
-        mode,
-    );
+    let mut y = 0;
+    while y < lines {
+        let size = len * stride;
+        let o = y * size;
+        block_sums::convolve_whole(
+            &mut line,
+            &mut acc,
+            src,
+            o,
+            &mut dst[o..o + size],
+            len,
+            stride,
+            0,
+            len,
+            weights,
+            mode,
+        );
+        y += 1;
+    }
 }
 
 // Any lines, in as large blocks as there is room for.
@@ -145,7 +152,7 @@ fn convolve_long(
 
 // Each of `lines` lines of len elements of stride bytes, convolved. The rows of a picture are h lines of w
 // pixels; its columns are one line of h rows.
-pub fn convolve_lines(
+fn convolve_lines(
     src: &[u8],
     dst: &mut [u8],
     lines: usize,

@@ -34,6 +34,7 @@ convolve-rows-requires c κs =
       omega (arith, eh, s .pre .0 .h-low),
       record {
         kernel = s .pre .1 .1 .1;
+        len-low = omega (arith, ew, s .pre .0 .w-low);
         len-high = omega (arith, ew, s .pre .0 .w-high);
         stride-low = omega arith;
         src-size = size _ ew eh (s .pre .1 .0);
@@ -57,6 +58,7 @@ convolve-lines-requires c κs =
     let size = cols-size (s .args .s) (t .before .width .result) (t .height .result) in
     record {
       kernel = s .pre .1 .1 .1;
+      len-low = omega (arith, eh, s .pre .0 .h-low);
       len-high = omega (arith, eh, s .pre .0 .h-high);
       stride-low = omega (arith, ew, s .pre .0 .w-low);
       src-size = size _ ew eh (r .convolve-rows .kept .1 .0 ∙ s .pre .1 .1 .0);

@@ -28,6 +28,7 @@ convolve-lines-requires c κs =
     let e = c .before .if1 .taken in
     record {
       kernel = p .kernel;
+      len-low = omega arith;
       len-high = omega (arith, room-is);
       stride-low = omega (arith, s .pre .0);
       src-size = omega (arith, size _ e (p .src-size));

@@ -1,15 +1,12 @@
 -- Each turn makes one line more, in the part of dst that it is lent.
 use mathlib.Core.Path.{_≡_, refl, _∙_}
 use Prim.Native.Nat.{_+_, _-_, _*_, _≤_, _<_, _^_}
-use native.Mathlib.Nat.{zero-add}
 use native.Mathlib.Omega.{arith}
-use borrow.Rule.Slice.PartMut.{same-len-mid}
 use lib.ListN.{length, length-take, length-drop}
 use denote.Ref.{now}
 use Rattle.passes.specs.Passes.{convolve}
-use Rattle.passes.specs.Written.{Part}
-use Rattle.passes.proofs.Written.{within, lineOf, part-none, part-one, part-join, part-passed}
-use Rattle.convolve.proofs.Lent.{run-back}
+use Rattle.passes.proofs.Written.{part-none, part-passed}
+use Rattle.convolve.proofs.Lent.{Lined, line-ends, line-more}
 use Rattle.convolve.proofs.Room.{room-still}
 use Rattle.convolve.proofs.each_line.Statement.{statement}
 use Rattle.convolve.proofs.each_line.Tie as tie
@@ -20,7 +17,7 @@ Inv-loop line₀ acc₀ src dst₀ lines len stride most weights mode y₀ line 
     × (length line ≡ length line₀)
     × (length acc ≡ length acc₀)
     × (length dst ≡ length dst₀)
-    × Part dst₀ dst 0 0 y (len * stride) (λ y k. lineOf (convolve mode weights) src (y * (len * stride)) len stride k)
+    × Lined (convolve mode weights) src len stride dst₀ dst y
 
 abbrev μ-loop : tie.MeasureT-loop
 μ-loop line₀ acc₀ src dst₀ lines len stride most weights mode y₀ line acc dst y = lines - y
@@ -38,7 +35,7 @@ ends : (c : tie.In-loop Inv-loop μ-loop) →
 ends c =
     let l = c .before in
     let a = start l .args in
-    omega (arith, within 0 (a .len * a .stride) (l .loop .y) (a .lines) (c .loop-test .taken))
+    line-ends (a .lines) (a .len * a .stride) (l .loop .y) (c .loop-test .taken)
 
 fits : (l : tie.At-loop Inv-loop μ-loop) → length (now (start l .args .dst)) < 2 ^ 64
 fits l = start l .good .1 .1 .1 .0 .0
@@ -75,16 +72,12 @@ loop-again c =
     let a = s .args in
     let i = l .loop .inv in
     let k = w .convolve-line .kept in
-    let n = a .len * a .stride in
-    let o = l .loop .y * n in
-    let part = w .convolve-line .last .1 .1 .1 .1 .0 in
-    let room : o + n ≤ length (l .loop .dst) = omega (arith, ends t, s .pre .0 .dst-size, i .3) in
-    let long : length part ≡ n = k .1 .1 .1 .1 .0 ∙ simp (length-take, length-drop) (omega arith) in (
+    let more = line-more (convolve (a .mode) (now (a .weights))) (now (a .src)) (now (a .dst)) (l .loop .dst) (w .convolve-line .last .1 .1 .1 .1 .0) (a .len) (a .stride) (l .loop .y) (omega (arith, ends t, s .pre .0 .dst-size, i .3)) (k .1 .1 .1 .1 .0) (w .convolve-line .ensures) (i .4) in (
       omega arith,
       k .0 ∙ i .1,
       k .1 .0 ∙ i .2,
-      same-len-mid o (o + n - o) (l .loop .dst) part (k .1 .1 .1 .1 .0) ∙ i .3,
-      part-join (omega arith) (omega arith) (i .4) (part-one (run-back (l .loop .dst) part o n _ room long (w .convolve-line .ensures) (zero-add o))),
+      more .0 ∙ i .3,
+      more .1,
     )
 
 returns : tie.Need-returns Inv-loop μ-loop
