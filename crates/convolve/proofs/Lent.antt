@@ -1,5 +1,5 @@
 -- A part of a list that was lent and has come back: a run of the whole, and one line more of what a pass makes.
-use mathlib.Core.Path.{_≡_, sym, ap, _∙_}
+use mathlib.Core.Path.{_≡_, refl, sym, ap, _∙_}
 use mathlib.Core.List.{List, _++_}
 use Prim.Native.Nat.{ℕ, _+_, _-_, _*_, _≤_, _<_}
 use native.Mathlib.Omega.{arith}
@@ -8,8 +8,8 @@ use borrow.Rule.Slice.PartMut.{putMid, postOf, take-put, drop-put, same-len-mid}
 use lib.ListN.{length, getD, take, drop, length-take, length-drop, List·getD-append}
 use lib.Seq.{length-take-le, getD-take, getD-drop, drop-at}
 use Rattle.passes.specs.Passes.{Pass}
-use Rattle.passes.specs.Written.{Run, Part}
-use Rattle.passes.proofs.Written.{within, lineOf, part-one, part-join}
+use Rattle.passes.specs.Written.{passed, Run, Part}
+use Rattle.passes.proofs.Written.{within, lineOf, part-none, part-one, part-join, part-passed}
 
 -- lists whose first elements, or whose last, are the same
 front : (n : ℕ) (l m : List ℕ) → take n l ≡ take n m → (j : ℕ) → j < n → getD l j 0 ≡ getD m j 0
@@ -41,24 +41,35 @@ module _ (d part : List ℕ) (o n : ℕ) (f : ℕ → ℕ) (l : o + n ≤ length
   run-back : {o′ : ℕ} → o′ ≡ o → Run d back o′ n f
   run-back e = rw e run
 
--- d has the first y lines that f makes of those of src
-abbrev pub Lined : Pass → List ℕ → ℕ → ℕ → List ℕ → List ℕ → ℕ → Type 0
-Lined f src len stride d₀ d y = Part d₀ d 0 0 y (len * stride) (λ y k. lineOf f src (y * (len * stride)) len stride k)
+-- d is as long as it was, and has the first y lines that f makes of those of src
+pub record Lined (f : Pass) (src : List ℕ) (len stride : ℕ) (old d : List ℕ) (y : ℕ) : Type 0 where
+  pub same : length d ≡ length old
+  pub made : Part old d 0 0 y (len * stride) (λ y k. lineOf f src (y * (len * stride)) len stride k)
 
--- line y ends where they all do, at the latest
-pub line-ends : (lines size y : ℕ) → y < lines → y * size + size ≤ lines * size
-line-ends lines size y h = omega (arith, within 0 size y lines h)
+pub lined-none : {f : Pass} {src : List ℕ} {len stride : ℕ} {d : List ℕ} → Lined f src len stride d d 0
+lined-none = record { same = refl; made = part-none }
 
--- one line more, in the part that is lent for it
-module _ (f : Pass) (src d₀ d part : List ℕ) (len stride y : ℕ) where
+module _ {f : Pass} {src : List ℕ} {len stride : ℕ} {old d : List ℕ} {y : ℕ} (lines : ℕ) (p : Lined f src len stride old d y) (all : length old ≡ lines * (len * stride)) where
   abbrev size : ℕ
   size = len * stride
 
   abbrev place : ℕ
   place = y * size
 
-  pub line-more : place + size ≤ length d → length part ≡ length (take (place + size - place) (drop place d)) → ((k : ℕ) → k < size → getD part k 0 ≡ lineOf f src place len stride k) →
-      Lined f src len stride d₀ d y → (length (putMid place (place + size - place) d part) ≡ length d) × Lined f src len stride d₀ (putMid place (place + size - place) d part) (y + 1)
-  line-more r e g p =
+  -- line y ends where they all do, at the latest
+  pub line-ends : y < lines → place + size ≤ length d
+  line-ends h = omega (arith, within 0 size y lines h, p .same)
+
+  -- one line more, in the part that is lent for it
+  pub line-more : y < lines → (part : List ℕ) → length part ≡ length (take (place + size - place) (drop place d)) → ((k : ℕ) → k < size → getD part k 0 ≡ lineOf f src place len stride k) →
+      Lined f src len stride old (putMid place (place + size - place) d part) (y + 1)
+  line-more h part e g =
+      let ends = line-ends h in
       let long : length part ≡ size = e ∙ simp (length-take, length-drop) (omega arith) in
-      (same-len-mid place (place + size - place) d part e, part-join (omega arith) (omega arith) p (part-one (run-back d part place size _ r long g (zero-add place))))
+      record {
+        same = same-len-mid place (place + size - place) d part e ∙ p .same;
+        made = part-join (omega arith) (omega arith) (p .made) (part-one (run-back d part place size _ ends long g (zero-add place)));
+      }
+
+  pub lined-all : y ≡ lines → d ≡ passed f src lines len len stride
+  lined-all e = part-passed f src lines len len stride (p .same ∙ all) (rw e at (p .made))

@@ -5,19 +5,14 @@ use native.Mathlib.Omega.{arith}
 use lib.ListN.{length, length-take, length-drop}
 use denote.Ref.{now}
 use Rattle.passes.specs.Passes.{convolve}
-use Rattle.passes.proofs.Written.{part-none, part-passed}
-use Rattle.convolve.proofs.Lent.{Lined, line-ends, line-more}
+use Rattle.convolve.proofs.Lent.{Lined, lined-none, line-ends, line-more, lined-all}
 use Rattle.convolve.proofs.Room.{room-still}
 use Rattle.convolve.proofs.each_line.Statement.{statement}
 use Rattle.convolve.proofs.each_line.Tie as tie
 
 abbrev Inv-loop : tie.InvT-loop
 Inv-loop line₀ acc₀ src dst₀ lines len stride most weights mode y₀ line acc dst y =
-    (y ≤ lines)
-    × (length line ≡ length line₀)
-    × (length acc ≡ length acc₀)
-    × (length dst ≡ length dst₀)
-    × Lined (convolve mode weights) src len stride dst₀ dst y
+    (y ≤ lines) × (length line ≡ length line₀) × (length acc ≡ length acc₀) × Lined (convolve mode weights) src len stride dst₀ dst y
 
 abbrev μ-loop : tie.MeasureT-loop
 μ-loop line₀ acc₀ src dst₀ lines len stride most weights mode y₀ line acc dst y = lines - y
@@ -27,29 +22,23 @@ abbrev start : tie.At-loop Inv-loop μ-loop → tie.Start Inv-loop μ-loop
 start l = l .before .before .before .before .before .before
 
 loop-holds : tie.Need-loop-holds Inv-loop μ-loop
-loop-holds c = (omega arith, refl, refl, refl, part-none)
+loop-holds c = (omega arith, refl, refl, lined-none)
 
--- line y ends where they all do, at the latest
+-- the bytes of a turn end within dst
 ends : (c : tie.In-loop Inv-loop μ-loop) →
-    let a = start (c .before) .args in c .before .loop .y * (a .len * a .stride) + a .len * a .stride ≤ a .lines * (a .len * a .stride)
+    let a = start (c .before) .args in c .before .loop .y * (a .len * a .stride) + a .len * a .stride ≤ length (c .before .loop .dst)
 ends c =
     let l = c .before in
-    let a = start l .args in
-    line-ends (a .lines) (a .len * a .stride) (l .loop .y) (c .loop-test .taken)
+    let s = start l in
+    line-ends (s .args .lines) (l .loop .inv .3) (s .pre .0 .dst-size) (c .loop-test .taken)
 
-fits : (l : tie.At-loop Inv-loop μ-loop) → length (now (start l .args .dst)) < 2 ^ 64
-fits l = start l .good .1 .1 .1 .0 .0
+fits : (l : tie.At-loop Inv-loop μ-loop) → length (l .loop .dst) < 2 ^ 64
+fits l = omega (arith, l .loop .inv .3 .same, start l .good .1 .1 .1 .0 .0)
 
 add-convolve-line : tie.Need-add-convolve-line Inv-loop μ-loop
 add-convolve-line c =
     let t = c .before .before in
-    omega (arith, ends t, start (t .before) .pre .0 .dst-size, fits (t .before))
-
-part-convolve-line-end : tie.Need-part-convolve-line-end Inv-loop μ-loop
-part-convolve-line-end c =
-    let t = c .before .before in
-    let l = t .before in
-    omega (arith, ends t, start l .pre .0 .dst-size, l .loop .inv .3)
+    omega (arith, ends t, fits (t .before))
 
 convolve-line-requires : tie.Need-convolve-line-requires Inv-loop μ-loop
 convolve-line-requires c κs =
@@ -59,8 +48,8 @@ convolve-line-requires c κs =
     let b = start l .pre .1 in
     let i = l .loop .inv in
     let e = ends t in (
-      record { kernel = p .kernel; len-high = p .len-high; stride-low = p .stride-low; end = omega (arith, p .src-size) },
-      (simp (length-take, length-drop) (omega (arith, p .dst-size)), room-still b (i .1) (i .2) (b .some) (omega arith)),
+      record { kernel = p .kernel; len-high = p .len-high; stride-low = p .stride-low; end = omega (arith, i .3 .same, p .src-size, p .dst-size) },
+      (simp (length-take, length-drop) (omega arith), room-still b (i .1) (i .2) (b .some) (omega arith)),
     )
 
 loop-again : tie.Need-loop-again Inv-loop μ-loop
@@ -69,23 +58,12 @@ loop-again c =
     let t = w .before .before .before .before in
     let l = t .before in
     let s = start l in
-    let a = s .args in
     let i = l .loop .inv in
     let k = w .convolve-line .kept in
-    let more = line-more (convolve (a .mode) (now (a .weights))) (now (a .src)) (now (a .dst)) (l .loop .dst) (w .convolve-line .last .1 .1 .1 .1 .0) (a .len) (a .stride) (l .loop .y) (omega (arith, ends t, s .pre .0 .dst-size, i .3)) (k .1 .1 .1 .1 .0) (w .convolve-line .ensures) (i .4) in (
-      omega arith,
-      k .0 ∙ i .1,
-      k .1 .0 ∙ i .2,
-      more .0 ∙ i .3,
-      more .1,
-    )
+    (omega arith, k .0 ∙ i .1, k .1 .0 ∙ i .2, line-more (s .args .lines) (i .3) (s .pre .0 .dst-size) (t .loop-test .taken) (w .convolve-line .last .1 .1 .1 .1 .0) (k .1 .1 .1 .1 .0) (w .convolve-line .ensures))
 
 returns : tie.Need-returns Inv-loop μ-loop
-returns c =
-    let l = c .before in
-    let a = start l .args in
-    let e : l .loop .y ≡ a .lines = omega arith in
-    part-passed (convolve (a .mode) (now (a .weights))) (now (a .src)) (a .lines) (a .len) (a .len) (a .stride) (l .loop .inv .3 ∙ start l .pre .0 .dst-size) (rw e at (l .loop .inv .4))
+returns c = let l = c .before in let s = start l in lined-all (s .args .lines) (l .loop .inv .3) (s .pre .0 .dst-size) (omega arith)
 
 pub each-line-spec : {M : Type 1} → statement M
 each-line-spec =
@@ -94,17 +72,17 @@ each-line-spec =
     Inv-loop
     μ-loop
     loop-holds
-    (λ c. omega (arith, ends c, start (c .before) .pre .0 .dst-size, fits (c .before)))
-    (λ c. omega (arith, ends c, start (c .before) .pre .0 .dst-size, fits (c .before)))
+    (λ c. omega (arith, ends c, fits (c .before)))
+    (λ c. omega (arith, ends c, fits (c .before)))
     add-convolve-line
     (λ c. omega arith)
     (λ c. omega arith)
-    part-convolve-line-end
+    (λ c. omega (arith, ends (c .before .before)))
     convolve-line-requires
     (λ c. omega arith)
     (λ c. omega arith)
     loop-again
     (λ c. c .before .loop .inv .1)
     (λ c. c .before .loop .inv .2)
-    (λ c. c .before .loop .inv .3)
+    (λ c. c .before .loop .inv .3 .same)
     returns)
