@@ -2,7 +2,6 @@
 use Prim.Native.Nat.{_+_, _/_}
 use native.Mathlib.Omega.{arith}
 use denote.Ref.{now}
-use borrow.Author.Needs.{needs}
 use Rattle.picture.proofs.Sizes.{room-is}
 use Rattle.passes.specs.Written.{lane}
 use Rattle.passes.proofs.Written.{run-same}
@@ -26,7 +25,7 @@ blend-element-requires c κs =
     places-room (st .args .mode) (st .pre .1) x 1 x 0 x 0 x 1 (t2 .find-place2 .ensures) (t1 .find-place .ensures) (t1 .find-place .ensures) (t2 .find-place2 .ensures)
 
 add-find-place : tie.Need-add-find-place
-add-find-place c = search needs
+add-find-place c = omega arith
 
 find-place-requires-3 : tie.Need-find-place-requires-3
 find-place-requires-3 c κs = omega (arith, room-is)
@@ -40,7 +39,7 @@ blend-element-requires-2 c κs =
     places-room (st .args .mode) (st .pre .1) (x + 1) 0 x 0 x 0 (x + 1) 0 (t2 .find-place3 .ensures) (t1 .find-place .ensures) (t1 .find-place .ensures) (t2 .find-place3 .ensures)
 
 same-length : tie.Need-same-length
-same-length c = search needs
+same-length c = c .before .before .blend-element .kept .1 .1 .1 .1 .1 .1 .1 .0
 
 returns : tie.Need-returns
 returns c =
@@ -54,7 +53,7 @@ returns c =
     (λ k _. doubled-even (a .mode) (a .len) (a .y / 2) (a .y) (lane (now (a .src)) (a .start) (a .stride) k) (t1 .find-place .ensures) (omega arith) (t2 .find-place2 .ensures))
 
 same-length-2 : tie.Need-same-length-2
-same-length-2 c = search needs
+same-length-2 c = c .before .before .blend-element2 .kept .1 .1 .1 .1 .1 .1 .1 .0
 
 returns-2 : tie.Need-returns-2
 returns-2 c =

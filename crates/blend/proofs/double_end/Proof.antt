@@ -4,7 +4,6 @@ use Prim.Native.Nat.{_+_, _-_, _/_, _%_}
 use native.Mathlib.Nat.{add-zero}
 use native.Mathlib.Omega.{arith}
 use denote.Ref.{now}
-use borrow.Author.Needs.{needs}
 use Rattle.picture.proofs.Sizes.{room-is}
 use Rattle.passes.specs.Written.{lane}
 use Rattle.passes.proofs.Written.{run-same}
@@ -14,10 +13,10 @@ use Rattle.blend.proofs.double_end.Statement.{statement}
 use Rattle.blend.proofs.double_end.Tie as tie
 
 add-sample-pixel : tie.Need-add-sample-pixel
-add-sample-pixel c = search needs
+add-sample-pixel c = omega arith
 
 sub-sample-pixel : tie.Need-sub-sample-pixel
-sub-sample-pixel c = search needs
+sub-sample-pixel c = omega arith
 
 sample-pixel-requires : tie.Need-sample-pixel-requires
 sample-pixel-requires c κs = omega (arith, room-is)
@@ -26,13 +25,13 @@ sample-pixel-requires-2 : tie.Need-sample-pixel-requires-2
 sample-pixel-requires-2 c κs = omega (arith, room-is)
 
 blend-pixels-requires : tie.Need-blend-pixels-requires
-blend-pixels-requires c κs = search needs
+blend-pixels-requires c κs = tt
 
 write-pixel-requires : tie.Need-write-pixel-requires
-write-pixel-requires c κs = search needs
+write-pixel-requires c κs = omega arith
 
 same-length : tie.Need-same-length
-same-length c = search needs
+same-length c = c .before .before .write-pixel .kept .0
 
 returns : tie.Need-returns
 returns c =

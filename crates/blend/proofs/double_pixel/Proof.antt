@@ -3,7 +3,6 @@ use mathlib.Core.Path.{_≡_, _∙_}
 use Prim.Native.Nat.{_+_, _-_, _*_}
 use native.Mathlib.Omega.{arith}
 use denote.Ref.{now}
-use borrow.Author.Needs.{needs}
 use Rattle.passes.specs.Passes.{double}
 use Rattle.passes.specs.Written.{lane}
 use Rattle.passes.proofs.Written.{run-same, part-one, part-join}
@@ -13,40 +12,42 @@ use Rattle.blend.proofs.double_pixel.Statement.{statement}
 use Rattle.blend.proofs.double_pixel.Tie as tie
 
 mul-at : tie.Need-mul-at
-mul-at c = search needs
+mul-at c = omega arith
 
 sub-read-pixel : tie.Need-sub-read-pixel
-sub-read-pixel c = search needs
+sub-read-pixel c = omega arith
 
 read-pixel-requires : tie.Need-read-pixel-requires
-read-pixel-requires c κs = search needs
+read-pixel-requires c κs = omega arith
 
 read-pixel-requires-2 : tie.Need-read-pixel-requires-2
-read-pixel-requires-2 c κs = search needs
+read-pixel-requires-2 c κs = omega arith
 
 add-read-pixel : tie.Need-add-read-pixel
-add-read-pixel c = search needs
+add-read-pixel c = omega arith
 
 read-pixel-requires-3 : tie.Need-read-pixel-requires-3
-read-pixel-requires-3 c κs = search needs
+read-pixel-requires-3 c κs = omega arith
 
 blend-pixels-requires : tie.Need-blend-pixels-requires
-blend-pixels-requires c κs = search needs
+blend-pixels-requires c κs = tt
 
 write-pixel-requires : tie.Need-write-pixel-requires
-write-pixel-requires c κs = search needs
+write-pixel-requires c κs = omega arith
 
 add-write-pixel : tie.Need-add-write-pixel
-add-write-pixel c = search needs
+add-write-pixel c = omega arith
 
 blend-pixels-requires-2 : tie.Need-blend-pixels-requires-2
-blend-pixels-requires-2 c κs = search needs
+blend-pixels-requires-2 c κs = tt
 
 write-pixel-requires-2 : tie.Need-write-pixel-requires-2
 write-pixel-requires-2 c κs = omega (arith, c .before .before .before .before .before)
 
 same-length : tie.Need-same-length
-same-length c = search needs
+same-length c =
+    let w2 = c .before .before in
+    w2 .write-pixel2 .kept .0 ∙ w2 .before .before .before .before .before .write-pixel .kept .0
 
 returns : tie.Need-returns
 returns c =

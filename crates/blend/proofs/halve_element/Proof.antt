@@ -2,7 +2,6 @@
 use Prim.Native.Nat.{_+_, _*_}
 use native.Mathlib.Omega.{arith}
 use denote.Ref.{now}
-use borrow.Author.Needs.{needs}
 use Rattle.picture.proofs.Sizes.{room-is}
 use Rattle.passes.specs.Written.{lane}
 use Rattle.passes.proofs.Written.{run-same}
@@ -53,7 +52,7 @@ blend-element-requires c κs =
     (t1 .find-place .ensures) (t2 .find-place2 .ensures) (t3 .find-place3 .ensures) (t4 .find-place4 .ensures)
 
 same-length : tie.Need-same-length
-same-length c = search needs
+same-length c = c .before .before .blend-element .kept .1 .1 .1 .1 .1 .1 .1 .0
 
 returns : tie.Need-returns
 returns c =

@@ -4,7 +4,6 @@ use Prim.Native.Nat.{_+_, _*_}
 use native.Mathlib.Nat.{add-zero}
 use native.Mathlib.Omega.{arith}
 use denote.Ref.{now}
-use borrow.Author.Needs.{needs}
 use Rattle.picture.proofs.Sizes.{room-is}
 use Rattle.passes.specs.Written.{lane}
 use Rattle.passes.proofs.Written.{run-same}
@@ -35,13 +34,13 @@ sample-pixel-requires-4 : tie.Need-sample-pixel-requires-4
 sample-pixel-requires-4 c κs = omega (arith, room-is)
 
 blend-pixels-requires : tie.Need-blend-pixels-requires
-blend-pixels-requires c κs = search needs
+blend-pixels-requires c κs = tt
 
 write-pixel-requires : tie.Need-write-pixel-requires
 write-pixel-requires c κs = omega (arith, c .before .before .before .before .before .before .before .before)
 
 same-length : tie.Need-same-length
-same-length c = search needs
+same-length c = c .before .before .write-pixel .kept .0
 
 returns : tie.Need-returns
 returns c =

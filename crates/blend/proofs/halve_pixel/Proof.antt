@@ -1,8 +1,8 @@
 -- The four pixels read are halving's samples.
 use mathlib.Core.Path.{_∙_}
 use Prim.Native.Nat.{_+_, _-_, _*_}
+use native.Mathlib.Omega.{arith}
 use denote.Ref.{now}
-use borrow.Author.Needs.{needs}
 use Rattle.passes.specs.Written.{lane}
 use Rattle.passes.proofs.Written.{run-same, part-one}
 use Rattle.blend.proofs.Pixels.{pixels-mix}
@@ -11,37 +11,37 @@ use Rattle.blend.proofs.halve_pixel.Statement.{statement}
 use Rattle.blend.proofs.halve_pixel.Tie as tie
 
 mul-at : tie.Need-mul-at
-mul-at c = search needs
+mul-at c = omega arith
 
 sub-read-pixel : tie.Need-sub-read-pixel
-sub-read-pixel c = search needs
+sub-read-pixel c = omega arith
 
 read-pixel-requires : tie.Need-read-pixel-requires
-read-pixel-requires c κs = search needs
+read-pixel-requires c κs = omega arith
 
 read-pixel-requires-2 : tie.Need-read-pixel-requires-2
-read-pixel-requires-2 c κs = search needs
+read-pixel-requires-2 c κs = omega arith
 
 add-read-pixel : tie.Need-add-read-pixel
-add-read-pixel c = search needs
+add-read-pixel c = omega arith
 
 read-pixel-requires-3 : tie.Need-read-pixel-requires-3
-read-pixel-requires-3 c κs = search needs
+read-pixel-requires-3 c κs = omega arith
 
 add-read-pixel-2 : tie.Need-add-read-pixel-2
-add-read-pixel-2 c = search needs
+add-read-pixel-2 c = omega arith
 
 read-pixel-requires-4 : tie.Need-read-pixel-requires-4
-read-pixel-requires-4 c κs = search needs
+read-pixel-requires-4 c κs = omega arith
 
 blend-pixels-requires : tie.Need-blend-pixels-requires
-blend-pixels-requires c κs = search needs
+blend-pixels-requires c κs = tt
 
 write-pixel-requires : tie.Need-write-pixel-requires
-write-pixel-requires c κs = search needs
+write-pixel-requires c κs = omega arith
 
 same-length : tie.Need-same-length
-same-length c = search needs
+same-length c = c .before .before .write-pixel .kept .0
 
 returns : tie.Need-returns
 returns c =

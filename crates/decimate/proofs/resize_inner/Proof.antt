@@ -16,7 +16,7 @@ double-inner-requires : tie.Need-double-inner-requires
 double-inner-requires c κs = rw (c .before .enum-told2 .given .1) at (c .before .before .before .before .before .pre)
 
 same-length : tie.Need-same-length
-same-length c = search needs
+same-length c = c .before .before .halve-inner .kept .1 .1 .1 .0
 
 returns : tie.Need-returns
 returns c =
@@ -24,7 +24,7 @@ returns c =
     simp (e .before .before .enum-told .given .1) (e .halve-inner .ensures)
 
 same-length-2 : tie.Need-same-length-2
-same-length-2 c = search needs
+same-length-2 c = c .before .before .double-inner .kept .1 .1 .1 .0
 
 returns-2 : tie.Need-returns-2
 returns-2 c =

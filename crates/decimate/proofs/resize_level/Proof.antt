@@ -13,16 +13,16 @@ use Rattle.decimate.proofs.resize_level.Statement.{statement}
 use Rattle.decimate.proofs.resize_level.Tie as tie
 
 width-requires : tie.Need-width-requires
-width-requires c κs = search needs
+width-requires c κs = tt
 
 height-requires : tie.Need-height-requires
-height-requires c κs = search needs
+height-requires c κs = tt
 
 width-requires-2 : tie.Need-width-requires-2
-width-requires-2 c κs = search needs
+width-requires-2 c κs = tt
 
 height-requires-2 : tie.Need-height-requires-2
-height-requires-2 c κs = search needs
+height-requires-2 c κs = tt
 
 bytes-requires : tie.Need-bytes-requires
 bytes-requires c κs = search needs

@@ -2,7 +2,6 @@
 use mathlib.Core.Path.{_∙_}
 use Prim.Native.Nat.{_*_, _≤_}
 use native.Mathlib.Omega.{arith}
-use borrow.Author.Needs.{needs}
 use Rattle.picture.specs.Sizes.{sideRoom}
 use Rattle.passes.proofs.Written.{part-join}
 use Rattle.decimate.proofs.Sizes.{out-high, inner-fits}
@@ -10,10 +9,12 @@ use Rattle.decimate.proofs.resize_row.Statement.{statement}
 use Rattle.decimate.proofs.resize_row.Tie as tie
 
 inner-from-requires : tie.Need-inner-from-requires
-inner-from-requires c κs = search needs
+inner-from-requires c κs = tt
 
 inner-to-requires : tie.Need-inner-to-requires
-inner-to-requires c κs = search needs
+inner-to-requires c κs =
+    let r = c .before .before .before .pre .2 in
+    (r .len-low, r .len-high)
 
 -- the outputs inside lie between the ends of the row
 bounds : (c : tie.After-inner-to) →
