@@ -3,10 +3,12 @@ pub mod Moved
 pub mod Integers
 pub mod Zeroed
 pub mod Walk
+pub mod Run
 pub mod Slid
 pub mod Columns
 pub mod Exposed
 pub mod Plane
+pub mod Rows
 pub mod Rounded
 pub mod Pixels
 pub mod Entry

@@ -58,6 +58,10 @@ module _ (d : Offset) (s : ℕ) (line : Line) (x : ℕ) where
   pub moved-out : OneWay d → s ≤ d .plus + d .minus → x < s → moved d s line x ≡ 0
   moved-out o l m = sym (moved-is 0 (λ _. refl) (λ i e k. absurd (omega arith)) (λ _. refl))
 
+-- two lines that agree
+pub moved-ext : (d : Offset) (s : ℕ) (f g : Line) (x : ℕ) → ((i : ℕ) → i < s → f i ≡ g i) → moved d s f x ≡ moved d s g x
+moved-ext d s f g x h = moved-is d s g x _ (from-before d s f x) (λ i e l. from-inside d s f x i e l ∙ h i l) (from-past d s f x)
+
 -- two moves that agree in where they look: element i of the one line is element k i of the other
 module _ (d : Offset) (s x : ℕ) (e : Offset) (t y : ℕ) (k : ℕ → ℕ) (line : Line) where
   pub moved-as : (x + d .minus < d .plus → y + e .minus < e .plus) →

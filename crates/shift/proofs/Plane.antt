@@ -40,6 +40,7 @@ module _ (dx dy : Offset) (w h : ℕ) (line : Line) (x y : ℕ) where
 -- something lies inside, so no place along all rows is too far
 pub record Reaches (dx dy : Offset) (w h : ℕ) : Type 0 where
   pub columns : dx .plus + dx .minus < w
+  pub rows : dy .plus + dy .minus < h
   pub onward : flat w dx dy .plus < h * w
   pub backward : flat w dx dy .minus < h * w
 
@@ -50,6 +51,7 @@ some-inside dx dy w h e =
     let m = leb-false h _ (n .1) in
     record {
       columns = l;
+      rows = m;
       onward = pixel-fits w h (dx .plus) (dy .plus) (omega arith) (omega arith);
       backward = pixel-fits w h (dx .minus) (dy .minus) (omega arith) (omega arith);
     }

@@ -3,7 +3,7 @@ use mathlib.Core.Path.{_≡_, refl, sym, _∙_}
 use mathlib.Core.Bool.{Bool, true, false, cond}
 use mathlib.Core.List.{List}
 use mathlib.Core.Logic.{_≢_}
-use Prim.Native.Nat.{ℕ, _+_, _-_, _≤_, _<_}
+use Prim.Native.Nat.{ℕ, _+_, _≤_, _<_}
 use native.Mathlib.Omega.{arith}
 use lib.Dec.{ltb, eqb}
 use lib.ListN.{length, getD, set, length-set}
@@ -12,8 +12,8 @@ use borrow.Author.Tests.{lt-ltb, le-ltb, ltb-true, ltb-false, eqb-true, eqb-fals
 use Rattle.picture.specs.Build.{build}
 use Rattle.picture.specs.Planes.{Line}
 use Rattle.picture.proofs.Build.{length-build, getD-build, build-ext}
-use Rattle.shift.specs.Bytes.{lineOf, zeroed}
-use Rattle.shift.proofs.Zeroed.{build-same, zeroed-is}
+use Rattle.shift.specs.Bytes.{lineOf}
+use Rattle.shift.proofs.Zeroed.{build-same}
 
 -- f below i, and g from there on
 abbrev pub upTo : ℕ → Line → Line → Line
@@ -26,12 +26,16 @@ module _ (f g : Line) where
   pub upto-from : (i j : ℕ) → i ≤ j → upTo i f g j ≡ g j
   upto-from i j l = rw (le-ltb j i l)
 
-  upto-other : (i k j : ℕ) → k ≡ i + 1 → j ≢ i → upTo i f g j ≡ upTo k f g j
-  upto-other i k j e ne = by-test (ltb j i) refl
+  -- a rule that f obeys below i, and g from there on
+  upto-is : (r : Line) (i j : ℕ) → (j < i → f j ≡ r j) → (i ≤ j → g j ≡ r j) → upTo i f g j ≡ r j
+  upto-is r i j u v = by-test (ltb j i) refl
     where
-      by-test : (t : Bool) → ltb j i ≡ t → upTo i f g j ≡ upTo k f g j
-      by-test true t = let l = ltb-true j i t in upto-below i j l ∙ sym (upto-below k j (omega arith))
-      by-test false t = let l = ltb-false j i t in upto-from i j l ∙ sym (upto-from k j (omega arith))
+      by-test : (t : Bool) → ltb j i ≡ t → upTo i f g j ≡ r j
+      by-test true t = let l = ltb-true j i t in upto-below i j l ∙ u l
+      by-test false t = let l = ltb-false j i t in upto-from i j l ∙ v l
+
+  upto-other : (i k j : ℕ) → k ≡ i + 1 → j ≢ i → upTo i f g j ≡ upTo k f g j
+  upto-other i k j e ne = upto-is (upTo k f g) i j (λ l. sym (upto-below k j (omega arith))) (λ l. sym (upto-from k j (omega arith)))
 
 -- an element is stored, and the rule changes there alone
 stored : (n : ℕ) (f g : Line) (k v : ℕ) → k < n → v ≡ g k → ((j : ℕ) → j ≢ k → f j ≡ g j) → set (build n f) k v ≡ build n g
@@ -50,11 +54,12 @@ module _ (old : List ℕ) (to : Line) where
   abbrev pub doneFrom : ℕ → List ℕ
   doneFrom i = build (length old) (upTo i (lineOf old) to)
 
-  pub below-none : old ≡ doneBelow 0
-  below-none = build-ext _ _ old refl (λ j l. sym (upto-from to (lineOf old) 0 j (omega arith)))
+  -- nothing is done: where the walk has been, it leaves what was there
+  pub below-none : (i : ℕ) → ((j : ℕ) → j < i → to j ≡ lineOf old j) → old ≡ doneBelow i
+  below-none i h = build-ext _ _ old refl (λ j l. sym (upto-is to (lineOf old) (lineOf old) i j (h j) (λ _. refl)))
 
-  pub from-none : old ≡ doneFrom (length old)
-  from-none = build-ext _ _ old refl (λ j l. sym (upto-below (lineOf old) to (length old) j l))
+  pub from-none : (i : ℕ) → ((j : ℕ) → i ≤ j → to j ≡ lineOf old j) → old ≡ doneFrom i
+  from-none i h = build-ext _ _ old refl (λ j l. sym (upto-is (lineOf old) to (lineOf old) i j (λ _. refl) (h j)))
 
   -- place k is given what stands at i, which is not done yet
   module _ (bytes : List ℕ) (i k : ℕ) (same : lineOf old i ≡ to k) where
@@ -62,23 +67,17 @@ module _ (old : List ℕ) (to : Line) where
         set bytes k (getD bytes i 0) ≡ build (length old) g
     turn f g e li lk u v h = rw e (stored (length old) f g k (getD (build (length old) f) i 0) lk (getD-build (length old) f i li ∙ u ∙ same ∙ sym v) h)
 
-    pub turn-up : bytes ≡ doneBelow k → k ≤ i → i < length old → set bytes k (getD bytes i 0) ≡ doneBelow (k + 1)
-    turn-up e l m =
-        turn _ _ e m (omega arith) (upto-from to (lineOf old) k i l) (upto-below to (lineOf old) (k + 1) k (omega arith)) (λ j. upto-other to (lineOf old) k (k + 1) j refl)
+    pub turn-up : (n : ℕ) → n ≡ k + 1 → bytes ≡ doneBelow k → k ≤ i → i < length old → set bytes k (getD bytes i 0) ≡ doneBelow n
+    turn-up n q e l m =
+        turn _ _ e m (omega arith) (upto-from to (lineOf old) k i l) (upto-below to (lineOf old) n k (omega arith)) (λ j. upto-other to (lineOf old) k n j q)
 
     pub turn-down : (n : ℕ) → n ≡ k + 1 → bytes ≡ doneFrom n → i < n → k < length old → set bytes k (getD bytes i 0) ≡ doneFrom k
     turn-down n q e l m =
         turn _ _ e (omega arith) m (upto-below (lineOf old) to n i l) (upto-from (lineOf old) to k k (omega arith)) (λ j ne. sym (upto-other (lineOf old) to k n j q ne))
 
-  -- no place is left
-  pub below-done : (i : ℕ) → length old ≤ i → doneBelow i ≡ build (length old) to
-  below-done i l = build-same (length old) _ to (λ j m. upto-below to (lineOf old) i j (omega arith))
+  -- all is done: what is left stays as it was
+  pub below-done : (i : ℕ) → ((j : ℕ) → i ≤ j → j < length old → to j ≡ lineOf old j) → doneBelow i ≡ build (length old) to
+  below-done i h = build-same (length old) _ to (λ j l. upto-is to (lineOf old) to i j (λ _. refl) (λ m. sym (h j m l)))
 
-  -- the places that are left are 0
-  pub below-all : (i : ℕ) → i ≤ length old → ((j : ℕ) → i ≤ j → j < length old → to j ≡ 0) → zeroed i (length old - i) (doneBelow i) ≡ build (length old) to
-  below-all i l h =
-      zeroed-is (length old) _ to i (length old - i) (λ j m. upto-below to (lineOf old) i j m) (λ j m k. h j m (omega arith)) (λ j m k. absurd (omega arith))
-
-  pub from-all : (i : ℕ) → ((j : ℕ) → j < i → to j ≡ 0) → zeroed 0 i (doneFrom i) ≡ build (length old) to
-  from-all i h =
-      zeroed-is (length old) _ to 0 i (λ j m. absurd (omega arith)) (λ j m k. h j (omega arith)) (λ j m k. upto-from (lineOf old) to i j (omega arith))
+  pub from-done : (i : ℕ) → ((j : ℕ) → j < i → to j ≡ lineOf old j) → doneFrom i ≡ build (length old) to
+  from-done i h = build-same (length old) _ to (λ j l. upto-is (lineOf old) to to i j (λ m. sym (h j m)) (λ _. refl))

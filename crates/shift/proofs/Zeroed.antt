@@ -27,6 +27,25 @@ module _ (a n x v : ℕ) where
 pub build-same : (n : ℕ) (f g : Line) → ((i : ℕ) → i < n → f i ≡ g i) → build n f ≡ build n g
 build-same n f g h = build-ext n g (build n f) (length-build n f) (λ i l. getD-build n f i l ∙ h i l)
 
+module _ (a n : ℕ) (bytes : List ℕ) where
+  length-zeroed : length (zeroed a n bytes) ≡ length bytes
+  unfolding zeroed
+  length-zeroed = length-build (length bytes) _
+
+  zeroed-at : (j : ℕ) → j < length bytes → getD (zeroed a n bytes) j 0 ≡ blank a n j (getD bytes j 0)
+  unfolding zeroed
+  zeroed-at j l = getD-build (length bytes) _ j l
+
+-- two runs are set to 0, and each byte is then as a rule says
+pub ends-zeroed : (n : ℕ) (g : Line) (bytes : List ℕ) (a p b m : ℕ) → length bytes ≡ n →
+    ((j : ℕ) → j < n → blank b m j (blank a p j (getD bytes j 0)) ≡ g j) → zeroed b m (zeroed a p bytes) ≡ build n g
+ends-zeroed n g bytes a p b m e h =
+    build-ext n g _ (length-zeroed b m (zeroed a p bytes) ∙ length-zeroed a p bytes ∙ e)
+    (λ j l.
+    zeroed-at b m (zeroed a p bytes) j (omega (arith, length-zeroed a p bytes))
+    ∙ ap (blank b m j) (zeroed-at a p bytes j (omega arith))
+    ∙ h j l)
+
 -- a run is set to 0, and the rule changes there alone
 pub zeroed-is : (n : ℕ) (f g : Line) (a k : ℕ) → ((j : ℕ) → j < a → f j ≡ g j) → ((j : ℕ) → a ≤ j → j < a + k → g j ≡ 0) →
     ((j : ℕ) → a + k ≤ j → j < n → f j ≡ g j) → zeroed a k (build n f) ≡ build n g

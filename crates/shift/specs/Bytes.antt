@@ -2,7 +2,7 @@
 use mathlib.Core.Path.{_≡_}
 use mathlib.Core.Bool.{Bool, true, false, cond}
 use mathlib.Core.List.{List}
-use Prim.Native.Nat.{ℕ, _+_, _*_, _/_, _%_, min}
+use Prim.Native.Nat.{ℕ, _+_, _-_, _*_, _/_, _%_, min}
 use lib.Dec.{ltb, leb}
 use lib.ListN.{length, getD}
 use Rattle.picture.specs.Build.{build}
@@ -15,12 +15,9 @@ use Rattle.shift.specs.Shift.{moved, shifted}
 abbrev pub lineOf : List ℕ → Line
 lineOf bytes i = getD bytes i 0
 
--- n places forward, and n places back
-abbrev pub forward : ℕ → Offset
-forward n = steps false n
-
-abbrev pub back : ℕ → Offset
-back n = steps true n
+-- no move
+abbrev pub still : Offset
+still = steps false 0
 
 -- all bytes moved by d, as one line
 unfoldable pub slid : Offset → List ℕ → List ℕ
@@ -33,6 +30,15 @@ blank a n x v = cond (ltb x a) v (cond (ltb x (a + n)) 0 v)
 -- the n bytes from a on are 0
 unfoldable pub zeroed : ℕ → ℕ → List ℕ → List ℕ
 zeroed a n bytes = build (length bytes) (λ i. blank a n i (lineOf bytes i))
+
+-- the w bytes from b on are those from a on moved by d, and the rest is as it was
+unfoldable pub runMoved : Offset → ℕ → ℕ → ℕ → List ℕ → List ℕ
+runMoved d w a b bytes =
+    build (length bytes) (λ i. cond (ltb i b) (lineOf bytes i) (cond (ltb i (b + w)) (moved d w (λ x. lineOf bytes (a + x)) (i - b)) (lineOf bytes i)))
+
+-- which of n rows that move by dy is moved in turn k: the last first where they move down
+abbrev pub turnRow : Offset → ℕ → ℕ → ℕ
+turnRow dy n k = cond (ltb 0 (dy .plus)) (n - 1 - k) k
 
 -- the n bytes from a on are 0 in each row of w bytes
 unfoldable pub columnsZeroed : ℕ → ℕ → ℕ → List ℕ → List ℕ

@@ -7,7 +7,7 @@ ghost use Rattle.picture.specs.Refusal.{firstOf};
 ghost use Rattle.picture.specs.Answer.{answered};
 ghost use Rattle.binary32.specs.Round.{wholeOffset};
 ghost use Rattle.shift.specs.Shift.{shiftedPicture};
-ghost use Rattle.shift.specs.Bytes.{forward, back, slid, zeroed, columnsZeroed, insideKept, planeShifted, OneWay, movedOut};
+ghost use Rattle.shift.specs.Bytes.{still, slid, zeroed, runMoved, turnRow, columnsZeroed, insideKept, planeShifted, OneWay, movedOut};
 ghost use Rattle.shift.specs.Outcome.{wrongOffsets, Ready, shiftChecks, outcome};
 use binary32::Offset;
 use picture::FullSize;
@@ -20,41 +20,83 @@ fn clear_run(bytes: &mut [u8], start: usize, n: usize)
     picture::clear(&mut bytes[start..], n);
 }
 
-// Moves every byte n places forward, the last first, so that none is read after it is overwritten.
-fn move_forward(bytes: &mut [u8], n: usize)
-    ensures { λ _. ⌜ now (bytes .exit) ≡ slid (forward n) (now (bytes .entry)) ⌝ }
+// Copies the n bytes from `from` on to a place not before, the last first, so that none is read after it is overwritten.
+fn copy_forward(bytes: &mut [u8], from: usize, to: usize, n: usize)
+    requires { ⌜ (from ≤ to) × (to + n ≤ length (now bytes)) ⌝ }
+    ensures { λ _. ⌜ now (bytes .exit) ≡ runMoved still n from to (now (bytes .entry)) ⌝ }
 {
-    let mut i = bytes.len();
-    while n < i {
+    let mut i = n;
+    while 0 < i {
         i -= 1;
-        bytes[i] = bytes[i - n];
+        bytes[to + i] = bytes[from + i];
     }
-    clear_run(bytes, 0, i);
 }
 
-// Moves every byte n places back, the first first.
-fn move_back(bytes: &mut [u8], n: usize)
-    ensures { λ _. ⌜ now (bytes .exit) ≡ slid (back n) (now (bytes .entry)) ⌝ }
+// Copies the n bytes from `from` on to a place not after, the first first.
+fn copy_back(bytes: &mut [u8], from: usize, to: usize, n: usize)
+    requires { ⌜ (to ≤ from) × (from + n ≤ length (now bytes)) ⌝ }
+    ensures { λ _. ⌜ now (bytes .exit) ≡ runMoved still n from to (now (bytes .entry)) ⌝ }
 {
     let mut i = 0;
-    while n < bytes.len() - i {
-        bytes[i] = bytes[i + n];
+    while i < n {
+        bytes[to + i] = bytes[from + i];
         i += 1;
     }
-    let left = bytes.len() - i;
-    clear_run(bytes, i, left);
+}
+
+// Copies the n bytes from `from` on to the place `to`.
+fn copy_run(bytes: &mut [u8], from: usize, to: usize, n: usize)
+    requires { ⌜ (from + n ≤ length (now bytes)) × (to + n ≤ length (now bytes)) ⌝ }
+    ensures { λ _. ⌜ now (bytes .exit) ≡ runMoved still n from to (now (bytes .entry)) ⌝ }
+{
+    if from < to {
+        copy_forward(bytes, from, to, n);
+        return;
+    }
+    copy_back(bytes, from, to, n);
+}
+
+// Makes of the w bytes from `to` on those from `from` on, moved by d: what stays inside is copied, the rest is cleared.
+fn move_run(bytes: &mut [u8], from: usize, to: usize, w: usize, d: Offset)
+    requires { ⌜ (from + w ≤ length (now bytes)) × (to + w ≤ length (now bytes)) × OneWay d × (d .plus + d .minus ≤ w) ⌝ }
+    ensures { λ _. ⌜ now (bytes .exit) ≡ runMoved d w from to (now (bytes .entry)) ⌝ }
+{
+    let kept = w - (d.plus + d.minus);
+    copy_run(bytes, from + d.minus, to + d.plus, kept);
+    clear_run(bytes, to, d.plus);
+    clear_run(bytes, to + d.plus + kept, d.minus);
 }
 
 // Moves every byte by d places.
 fn slide(bytes: &mut [u8], d: Offset)
+    requires { ⌜ (d .plus ≤ length (now bytes)) × (d .minus ≤ length (now bytes)) ⌝ }
     ensures { λ _. ⌜ now (bytes .exit) ≡ slid d (now (bytes .entry)) ⌝ }
 {
+    let n = bytes.len();
     if d.minus < d.plus {
-        move_forward(bytes, d.plus - d.minus);
+        move_run(
+            bytes,
+            0,
+            0,
+            n,
+            Offset {
+                plus: d.plus - d.minus,
+                minus: 0,
+            },
+        );
         return;
     }
     if d.plus < d.minus {
-        move_back(bytes, d.minus - d.plus);
+        move_run(
+            bytes,
+            0,
+            0,
+            n,
+            Offset {
+                plus: 0,
+                minus: d.minus - d.plus,
+            },
+        );
     }
 }
 
@@ -95,8 +137,36 @@ fn moved_out(w: usize, h: usize, dx: Offset, dy: Offset) -> bool
     h <= dy.plus + dy.minus
 }
 
+// Which of n rows turn k moves: no row is overwritten before it is read.
+fn turn_row(dy: Offset, n: usize, k: usize) -> usize
+    requires { ⌜ k < n ⌝ }
+    ensures { λ r. ⌜ r ≡ turnRow dy n k ⌝ }
+{
+    if 0 < dy.plus {
+        return n - 1 - k;
+    }
+    k
+}
+
+// Moves a plane row by row: only what stays inside is moved, so this is the quicker where little does.
+fn move_rows(bytes: &mut [u8], w: usize, h: usize, dx: Offset, dy: Offset)
+    requires { ⌜ (length (now bytes) ≡ h * w) × OneWay dx × OneWay dy × (dx .plus + dx .minus < w) × (dy .plus + dy .minus < h) ⌝ }
+    ensures { λ _. ⌜ now (bytes .exit) ≡ planeShifted dx dy w h (now (bytes .entry)) ⌝ }
+{
+    let kept = h - (dy.plus + dy.minus);
+    let mut k = 0;
+    while k < kept {
+        let r = turn_row(dy, kept, k);
+        move_run(bytes, (r + dy.minus) * w, (r + dy.plus) * w, w, dx);
+        k += 1;
+    }
+    clear_run(bytes, 0, dy.plus * w);
+    clear_run(bytes, (dy.plus + kept) * w, dy.minus * w);
+}
+
 // Moves a plane of h rows of w bytes by dx and dy. All rows are moved as one line, by dy rows and dx
-// bytes at once, and what that brought in from another row is then cleared.
+// bytes at once, and what that brought in from another row is then cleared; but where more than a
+// quarter of each row leaves it, row by row.
 fn move_plane(bytes: &mut [u8], w: usize, h: usize, dx: Offset, dy: Offset)
     requires { ⌜ (length (now bytes) ≡ h * w) × OneWay dx × OneWay dy ⌝ }
     ensures { λ _. ⌜ now (bytes .exit) ≡ planeShifted dx dy w h (now (bytes .entry)) ⌝ }
@@ -104,6 +174,10 @@ fn move_plane(bytes: &mut [u8], w: usize, h: usize, dx: Offset, dy: Offset)
     if moved_out(w, h, dx, dy) {
         let n = bytes.len();
         clear_run(bytes, 0, n);
+        return;
+    }
+    if w / 4 < dx.plus + dx.minus {
+        move_rows(bytes, w, h, dx, dy);
         return;
     }
     slide(

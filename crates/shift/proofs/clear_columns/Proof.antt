@@ -19,7 +19,7 @@ abbrev μ-loop : tie.MeasureT-loop
 loop-holds : tie.Need-loop-holds Inv-loop μ-loop
 loop-holds c =
     let a = c .before .args in
-    (omega arith, refl, rw (zero-mul (a .w)) (below-none (a .bytes .now) (blankColumns (a .w) (a .start) (a .n) (a .bytes .now))))
+    (omega arith, refl, rw (zero-mul (a .w)) (below-none (a .bytes .now) (blankColumns (a .w) (a .start) (a .n) (a .bytes .now)) 0 (λ j l. absurd (omega arith))))
 
 -- a row's columns lie inside
 room : (c : tie.After-clear-run-arg Inv-loop μ-loop) → let at = c .before .before in let a = at .before .before .args in at .loop .y * a .w + a .w ≤ length (a .bytes .now)
@@ -62,7 +62,7 @@ returns c =
     let at = c .before in
     let a = at .before .before .args in
     let all : at .loop .y * a .w ≡ a .h * a .w = ap (λ (y : ℕ). y * a .w) (omega arith) in
-    at .loop .inv .2 ∙ below-done (a .bytes .now) (blankColumns (a .w) (a .start) (a .n) (a .bytes .now)) (at .loop .y * a .w) (omega arith)
+    at .loop .inv .2 ∙ below-done (a .bytes .now) (blankColumns (a .w) (a .start) (a .n) (a .bytes .now)) (at .loop .y * a .w) (λ j l m. absurd (omega arith))
 
 pub clear-columns-spec : {M : Type 1} → statement M
 clear-columns-spec =

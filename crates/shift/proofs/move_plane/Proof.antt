@@ -1,4 +1,4 @@
--- Where something lies inside, the bytes move as one line, and what came in from another row is set to zero.
+-- Where something lies inside, the bytes move row by row; or as one line, and what came in from another row is set to zero.
 use mathlib.Core.Path.{sym, _∙_, ap}
 use native.Mathlib.Omega.{arith}
 use borrow.Author.Needs.{needs}
@@ -28,31 +28,43 @@ returns c =
 room : (c : tie.Else1) → let a = c .before .before .before .args in Reaches (a .dx) (a .dy) (a .w) (a .h)
 room c = let a = c .before .before .before .args in some-inside (a .dx) (a .dy) (a .w) (a .h) (sym (c .before .moved-out .ensures) ∙ c .if1 .left)
 
-mul-t14 : tie.Need-mul-t14
-mul-t14 c = omega (arith, room (c .before .before) .onward)
+add-if2 : tie.Need-add-if2
+add-if2 c = search needs
 
-add-t15 : tie.Need-add-t15
-add-t15 c = omega (arith, room (c .before .before .before) .onward)
-
-mul-t16 : tie.Need-mul-t16
-mul-t16 c = omega (arith, room (c .before .before .before .before) .backward)
-
-add-t17 : tie.Need-add-t17
-add-t17 c = omega (arith, room (c .before .before .before .before .before) .backward)
-
-slide-requires : tie.Need-slide-requires
-slide-requires c κs = search needs
-
-clear-exposed-requires : tie.Need-clear-exposed-requires
-clear-exposed-requires c κs = (omega arith, omega arith, room (c .before .before .before .before .before .before .before .before .before) .columns)
+move-rows-requires : tie.Need-move-rows-requires
+move-rows-requires c κs = let r = room (c .before .before .before) in (omega arith, omega arith, omega arith, r .columns, r .rows)
 
 same-length-2 : tie.Need-same-length-2
 same-length-2 c = search needs
 
 returns-2 : tie.Need-returns-2
-returns-2 c =
+returns-2 c = search needs
+
+mul-t11 : tie.Need-mul-t11
+mul-t11 c = omega (arith, room (c .before .before .before .before) .onward)
+
+add-t12 : tie.Need-add-t12
+add-t12 c = omega (arith, room (c .before .before .before .before .before) .onward)
+
+mul-t20 : tie.Need-mul-t20
+mul-t20 c = omega (arith, room (c .before .before .before .before .before .before) .backward)
+
+add-t21 : tie.Need-add-t21
+add-t21 c = omega (arith, room (c .before .before .before .before .before .before .before) .backward)
+
+slide-requires : tie.Need-slide-requires
+slide-requires c κs = let r = room (c .before .before .before .before .before .before .before) in (omega (arith, r .onward), omega (arith, r .backward))
+
+clear-exposed-requires : tie.Need-clear-exposed-requires
+clear-exposed-requires c κs = (omega arith, omega arith, room (c .before .before .before .before .before .before .before .before .before .before .before) .columns)
+
+same-length-3 : tie.Need-same-length-3
+same-length-3 c = search needs
+
+returns-3 : tie.Need-returns-3
+returns-3 c =
     let s = c .before .before .before .before .before .before in
-    let p = s .before .before .before .before .before .before .before .before .before in
+    let p = s .before .before .before .before .before .before .before .before .before .before .before in
     let a = p .args in
     c .before .before .clear-exposed .ensures
     ∙ ap (insideKept (a .dx) (a .w)) (s .slide .ensures)
@@ -66,11 +78,15 @@ move-plane-spec =
     clear-run-requires
     same-length
     returns
-    mul-t14
-    add-t15
-    mul-t16
-    add-t17
+    add-if2
+    move-rows-requires
+    same-length-2
+    returns-2
+    mul-t11
+    add-t12
+    mul-t20
+    add-t21
     slide-requires
     clear-exposed-requires
-    same-length-2
-    returns-2)
+    same-length-3
+    returns-3)

@@ -1,0 +1,79 @@
+-- The last bytes, from i on, are copied, each read before it was overwritten, and the rest is as it was.
+use mathlib.Core.Path.{_≡_, refl, sym, _∙_}
+use Prim.Native.Nat.{ℕ, _+_, _-_, _≤_}
+use native.Mathlib.Omega.{arith}
+use lib.ListN.{length, length-set}
+use Rattle.shift.specs.Bytes.{still, runMoved}
+use Rattle.shift.proofs.Run.{rule, rule-before, rule-past, copied}
+use Rattle.shift.proofs.Walk.{doneFrom, from-none, turn-down, from-done}
+use Rattle.shift.proofs.copy_forward.Statement.{statement}
+use Rattle.shift.proofs.copy_forward.Tie as tie
+
+abbrev Inv-loop : tie.InvT-loop
+Inv-loop bytes₀ from to n i₀ bytes i = (i ≤ n) × (length bytes ≡ length bytes₀) × (bytes ≡ doneFrom bytes₀ (rule still n from to bytes₀) (to + i))
+
+abbrev μ-loop : tie.MeasureT-loop
+μ-loop bytes₀ from to n i₀ bytes i = i
+
+loop-holds : tie.Need-loop-holds Inv-loop μ-loop
+loop-holds c =
+    let a = c .args in
+    let old = a .bytes .now in
+    (omega arith, refl, from-none old (rule still (a .n) (a .from) (a .to) old) (a .to + a .n) (λ j l. rule-past still (a .n) (a .from) (a .to) old j l))
+
+sub-i : tie.Need-sub-i Inv-loop μ-loop
+sub-i c = omega arith
+
+add-bytes : tie.Need-add-bytes Inv-loop μ-loop
+add-bytes c = omega arith
+
+slice-read-bytes : tie.Need-slice-read-bytes Inv-loop μ-loop
+slice-read-bytes c = omega arith
+
+add-bytes-2 : tie.Need-add-bytes-2 Inv-loop μ-loop
+add-bytes-2 c = omega arith
+
+slice-write-bytes : tie.Need-slice-write-bytes Inv-loop μ-loop
+slice-write-bytes c = omega arith
+
+loop-less : tie.Need-loop-less Inv-loop μ-loop
+loop-less c = omega arith
+
+loop-again : tie.Need-loop-again Inv-loop μ-loop
+loop-again c =
+    let at = c .before .before in
+    let a = at .before .args in
+    let old = a .bytes .now in
+    let i = at .loop .i - 1 in (
+      omega arith,
+      simp length-set (omega arith),
+      turn-down old (rule still (a .n) (a .from) (a .to) old) (at .loop .bytes) (a .from + i) (a .to + i) (sym (copied (a .n) (a .from) (a .to) old (a .to + i) i refl (omega arith))) (a .to + at .loop .i) (omega arith) (at .loop .inv .2) (omega arith) (omega arith),
+    )
+
+same-length : tie.Need-same-length Inv-loop μ-loop
+same-length c = omega arith
+
+returns : tie.Need-returns Inv-loop μ-loop
+unfolding runMoved
+returns c =
+    let at = c .before in
+    let a = at .before .args in
+    let old = a .bytes .now in
+    at .loop .inv .2 ∙ from-done old (rule still (a .n) (a .from) (a .to) old) (a .to + at .loop .i) (λ j l. rule-before still (a .n) (a .from) (a .to) old j (omega arith))
+
+pub copy-forward-spec : {M : Type 1} → statement M
+copy-forward-spec =
+    tie.close
+    (tie.spec
+    Inv-loop
+    μ-loop
+    loop-holds
+    sub-i
+    add-bytes
+    slice-read-bytes
+    add-bytes-2
+    slice-write-bytes
+    loop-less
+    loop-again
+    same-length
+    returns)
