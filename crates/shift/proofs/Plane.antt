@@ -37,24 +37,14 @@ module _ (dx dy : Offset) (w h : ℕ) (line : Line) (x y : ℕ) where
   unfolding shifted
   both = moved-is dx w _ x _ (from-before dx w _ x) (λ i e l. from-inside dx w _ x i e l ∙ along i e l) (from-past dx w _ x)
 
--- something lies inside, so no place along all rows is too far
-pub record Reaches (dx dy : Offset) (w h : ℕ) : Type 0 where
-  pub columns : dx .plus + dx .minus < w
-  pub rows : dy .plus + dy .minus < h
-  pub onward : flat w dx dy .plus < h * w
-  pub backward : flat w dx dy .minus < h * w
+-- something lies inside
+pub some-inside : (dx dy : Offset) (w h : ℕ) → (movedOut w dx || movedOut h dy) ≡ false → (dx .plus + dx .minus < w) × (dy .plus + dy .minus < h)
+some-inside dx dy w h e = let n = neither _ _ e in (leb-false w _ (n .0), leb-false h _ (n .1))
 
-pub some-inside : (dx dy : Offset) (w h : ℕ) → (movedOut w dx || movedOut h dy) ≡ false → Reaches dx dy w h
-some-inside dx dy w h e =
-    let n = neither _ _ e in
-    let l = leb-false w _ (n .0) in
-    let m = leb-false h _ (n .1) in
-    record {
-      columns = l;
-      rows = m;
-      onward = pixel-fits w h (dx .plus) (dy .plus) (omega arith) (omega arith);
-      backward = pixel-fits w h (dx .minus) (dy .minus) (omega arith) (omega arith);
-    }
+-- then no place along all rows is too far
+pub flat-fits : (dx dy : Offset) (w h : ℕ) → dx .plus + dx .minus < w → dy .plus + dy .minus < h → (flat w dx dy .plus < h * w) × (flat w dx dy .minus < h * w)
+flat-fits dx dy w h l m =
+    (pixel-fits w h (dx .plus) (dy .plus) (omega arith) (omega arith), pixel-fits w h (dx .minus) (dy .minus) (omega arith) (omega arith))
 
 module _ (dx dy : Offset) (w h : ℕ) (bytes : List ℕ) (exact : length bytes ≡ h * w) where
   pub slid-kept : insideKept dx w (slid (flat w dx dy) bytes) ≡ planeShifted dx dy w h bytes

@@ -44,6 +44,16 @@ module _ (d : Offset) (w a b : ℕ) (bytes : List ℕ) where
 pub copied : (n a b : ℕ) (bytes : List ℕ) (i x : ℕ) → i ≡ b + x → x < n → rule still n a b bytes i ≡ lineOf bytes (a + x)
 copied n a b bytes i x e l = rule-inside still n a b bytes i x e l ∙ from-inside still n (lineFrom a bytes) x x (omega arith) l
 
+-- a run that is copied onto itself
+pub copied-still : (n a b : ℕ) (bytes : List ℕ) → a ≡ b → bytes ≡ runMoved still n a b bytes
+unfolding runMoved
+copied-still n a b bytes q = build-ext (length bytes) _ bytes refl (λ j l. sym (by-where j (find n j b)))
+  where
+    by-where : (j : ℕ) → Where n j b → rule still n a b bytes j ≡ lineOf bytes j
+    by-where j (before h) = rule-before still n a b bytes j h
+    by-where j (inside x e h) = copied n a b bytes j x e h ∙ ap (lineOf bytes) (omega arith)
+    by-where j (past h) = rule-past still n a b bytes j h
+
 module _ (d : Offset) (w a b : ℕ) (bytes : List ℕ) (one : OneWay d) (l : d .plus + d .minus ≤ w) (fits : b + w ≤ length bytes) where
   abbrev kept : ℕ
   kept = w - (d .plus + d .minus)

@@ -1,20 +1,15 @@
 -- Laws of a list that is moved as one line.
-use mathlib.Core.Path.{_≡_, refl, sym}
+use mathlib.Core.Path.{_≡_}
 use mathlib.Core.List.{List}
 use Prim.Native.Nat.{ℕ, _+_}
 use native.Mathlib.Omega.{arith}
 use lib.ListN.{length}
-use Rattle.picture.proofs.Build.{build-ext}
 use Rattle.binary32.specs.declared.Offset.{Offset}
 use Rattle.shift.specs.Bytes.{lineOf, slid}
-use Rattle.shift.proofs.Moved.{from-inside, moved-same}
+use Rattle.shift.proofs.Moved.{moved-same}
 use Rattle.shift.proofs.Zeroed.{build-same}
 
 -- only the difference of an offset's two numbers matters
 pub slid-same : (d e : Offset) (bytes : List ℕ) → d .plus + e .minus ≡ e .plus + d .minus → slid d bytes ≡ slid e bytes
 unfolding slid
 slid-same d e bytes h = build-same (length bytes) _ _ (λ i _. moved-same d e (length bytes) (lineOf bytes) i h)
-
-pub slid-none : (d : Offset) (bytes : List ℕ) → d .plus ≡ d .minus → bytes ≡ slid d bytes
-unfolding slid
-slid-none d bytes h = build-ext _ _ bytes refl (λ i l. sym (from-inside d (length bytes) (lineOf bytes) i i (omega arith) l))

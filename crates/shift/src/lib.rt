@@ -53,7 +53,9 @@ fn copy_run(bytes: &mut [u8], from: usize, to: usize, n: usize)
         copy_forward(bytes, from, to, n);
         return;
     }
-    copy_back(bytes, from, to, n);
+    if to < from {
+        copy_back(bytes, from, to, n);
+    }
 }
 
 // Makes of the w bytes from `to` on those from `from` on, moved by d: what stays inside is copied, the rest is cleared.
@@ -67,37 +69,29 @@ fn move_run(bytes: &mut [u8], from: usize, to: usize, w: usize, d: Offset)
     clear_run(bytes, to + d.plus + kept, d.minus);
 }
 
+// The same move with one of its numbers 0.
+fn net(d: Offset) -> Offset
+    ensures { λ r. ⌜ OneWay r × (r .plus + d .minus ≡ d .plus + r .minus) ⌝ }
+{
+    if d.minus < d.plus {
+        return Offset {
+            plus: d.plus - d.minus,
+            minus: 0,
+        };
+    }
+    Offset {
+        plus: 0,
+        minus: d.minus - d.plus,
+    }
+}
+
 // Moves every byte by d places.
 fn slide(bytes: &mut [u8], d: Offset)
     requires { ⌜ (d .plus ≤ length (now bytes)) × (d .minus ≤ length (now bytes)) ⌝ }
     ensures { λ _. ⌜ now (bytes .exit) ≡ slid d (now (bytes .entry)) ⌝ }
 {
     let n = bytes.len();
-    if d.minus < d.plus {
-        move_run(
-            bytes,
-            0,
-            0,
-            n,
-            Offset {
-                plus: d.plus - d.minus,
-                minus: 0,
-            },
-        );
-        return;
-    }
-    if d.plus < d.minus {
-        move_run(
-            bytes,
-            0,
-            0,
-            n,
-            Offset {
-                plus: 0,
-                minus: d.minus - d.plus,
-            },
-        );
-    }
+    move_run(bytes, 0, 0, n, net(d));
 }
 
 // Sets the n bytes from `start` on to zero in each of the h rows of w bytes.
@@ -137,6 +131,22 @@ fn moved_out(w: usize, h: usize, dx: Offset, dy: Offset) -> bool
     h <= dy.plus + dy.minus
 }
 
+// Moves a plane of h rows of w bytes by dx and dy, all rows as one line, by dy rows and dx bytes at once;
+// what that brought in from another row is then cleared.
+fn move_flat(bytes: &mut [u8], w: usize, h: usize, dx: Offset, dy: Offset)
+    requires { ⌜ (length (now bytes) ≡ h * w) × OneWay dx × OneWay dy × (dx .plus + dx .minus < w) × (dy .plus + dy .minus < h) ⌝ }
+    ensures { λ _. ⌜ now (bytes .exit) ≡ planeShifted dx dy w h (now (bytes .entry)) ⌝ }
+{
+    slide(
+        bytes,
+        Offset {
+            plus: dy.plus * w + dx.plus,
+            minus: dy.minus * w + dx.minus,
+        },
+    );
+    clear_exposed(bytes, w, h, dx);
+}
+
 // Which of n rows turn k moves: no row is overwritten before it is read.
 fn turn_row(dy: Offset, n: usize, k: usize) -> usize
     requires { ⌜ k < n ⌝ }
@@ -148,7 +158,7 @@ fn turn_row(dy: Offset, n: usize, k: usize) -> usize
     k
 }
 
-// Moves a plane row by row: only what stays inside is moved, so this is the quicker where little does.
+// Moves a plane of h rows of w bytes by dx and dy, row by row: only what stays inside is moved.
 fn move_rows(bytes: &mut [u8], w: usize, h: usize, dx: Offset, dy: Offset)
     requires { ⌜ (length (now bytes) ≡ h * w) × OneWay dx × OneWay dy × (dx .plus + dx .minus < w) × (dy .plus + dy .minus < h) ⌝ }
     ensures { λ _. ⌜ now (bytes .exit) ≡ planeShifted dx dy w h (now (bytes .entry)) ⌝ }
@@ -164,9 +174,8 @@ fn move_rows(bytes: &mut [u8], w: usize, h: usize, dx: Offset, dy: Offset)
     clear_run(bytes, (dy.plus + kept) * w, dy.minus * w);
 }
 
-// Moves a plane of h rows of w bytes by dx and dy. All rows are moved as one line, by dy rows and dx
-// bytes at once, and what that brought in from another row is then cleared; but where more than a
-// quarter of each row leaves it, row by row.
+// Moves a plane of h rows of w bytes by dx and dy: row by row where much of each row leaves it, else as one line, which
+// is the quicker for narrow planes and for small moves.
 fn move_plane(bytes: &mut [u8], w: usize, h: usize, dx: Offset, dy: Offset)
     requires { ⌜ (length (now bytes) ≡ h * w) × OneWay dx × OneWay dy ⌝ }
     ensures { λ _. ⌜ now (bytes .exit) ≡ planeShifted dx dy w h (now (bytes .entry)) ⌝ }
@@ -176,18 +185,11 @@ fn move_plane(bytes: &mut [u8], w: usize, h: usize, dx: Offset, dy: Offset)
         clear_run(bytes, 0, n);
         return;
     }
-    if w / 4 < dx.plus + dx.minus {
+    if w / 4 + 32 < dx.plus + dx.minus {
         move_rows(bytes, w, h, dx, dy);
         return;
     }
-    slide(
-        bytes,
-        Offset {
-            plus: dy.plus * w + dx.plus,
-            minus: dy.minus * w + dx.minus,
-        },
-    );
-    clear_exposed(bytes, w, h, dx);
+    move_flat(bytes, w, h, dx, dy);
 }
 
 // Moves a picture by dx and dy, each rounded to whole pixels.
