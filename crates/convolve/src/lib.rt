@@ -102,13 +102,13 @@ fn convolve_short(
     let mut y = 0;
     while y < lines {
         let size = len * stride;
-        let o = y * size;
+        let start = y * size;
         block_sums::convolve_whole(
             &mut line,
             &mut acc,
             src,
-            o,
-            &mut dst[o..o + size],
+            start,
+            &mut dst[start..start + size],
             len,
             stride,
             0,
