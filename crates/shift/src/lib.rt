@@ -63,10 +63,12 @@ fn move_run(bytes: &mut [u8], from: usize, to: usize, w: usize, d: Offset)
     requires { ⌜ (from + w ≤ length (now bytes)) × (to + w ≤ length (now bytes)) × OneWay d × (d .plus + d .minus ≤ w) ⌝ }
     ensures { λ _. ⌜ now (bytes .exit) ≡ runMoved d w from to (now (bytes .entry)) ⌝ }
 {
-    let kept = w - (d.plus + d.minus);
-    copy_run(bytes, from + d.minus, to + d.plus, kept);
-    clear_run(bytes, to, d.plus);
-    clear_run(bytes, to + d.plus + kept, d.minus);
+    let plus = d.plus;
+    let minus = d.minus;
+    let kept = w - (plus + minus);
+    copy_run(bytes, from + minus, to + plus, kept);
+    clear_run(bytes, to, plus);
+    clear_run(bytes, to + plus + kept, minus);
 }
 
 // The same move with one of its numbers 0.
@@ -163,15 +165,17 @@ fn move_rows(bytes: &mut [u8], w: usize, h: usize, dx: Offset, dy: Offset)
     requires { ⌜ (length (now bytes) ≡ h * w) × OneWay dx × OneWay dy × (dx .plus + dx .minus < w) × (dy .plus + dy .minus < h) ⌝ }
     ensures { λ _. ⌜ now (bytes .exit) ≡ planeShifted dx dy w h (now (bytes .entry)) ⌝ }
 {
-    let kept = h - (dy.plus + dy.minus);
+    let down = dy.plus;
+    let up = dy.minus;
+    let kept = h - (down + up);
     let mut k = 0;
     while k < kept {
         let r = turn_row(dy, kept, k);
-        move_run(bytes, (r + dy.minus) * w, (r + dy.plus) * w, w, dx);
+        move_run(bytes, (r + up) * w, (r + down) * w, w, dx);
         k += 1;
     }
-    clear_run(bytes, 0, dy.plus * w);
-    clear_run(bytes, (dy.plus + kept) * w, dy.minus * w);
+    clear_run(bytes, 0, down * w);
+    clear_run(bytes, (down + kept) * w, up * w);
 }
 
 // Moves a plane of h rows of w bytes by dx and dy: row by row where much of each row leaves it, else as one line, which

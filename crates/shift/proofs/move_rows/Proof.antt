@@ -9,10 +9,10 @@ use Rattle.shift.proofs.move_rows.Statement.{statement}
 use Rattle.shift.proofs.move_rows.Tie as tie
 
 abbrev Inv-loop : tie.InvT-loop
-Inv-loop bytes₀ w h dx dy kept k₀ bytes k = (k ≤ staying dy h) × Turned dx dy w h bytes₀ k bytes
+Inv-loop bytes₀ w h dx dy down up kept k₀ bytes k = (k ≤ staying dy h) × Turned dx dy w h bytes₀ k bytes
 
 abbrev μ-loop : tie.MeasureT-loop
-μ-loop bytes₀ w h dx dy kept k₀ bytes k = kept - k
+μ-loop bytes₀ w h dx dy down up kept k₀ bytes k = kept - k
 
 add-kept : tie.Need-add-kept Inv-loop μ-loop
 add-kept c = omega arith
@@ -21,7 +21,7 @@ sub-kept : tie.Need-sub-kept Inv-loop μ-loop
 sub-kept c = omega arith
 
 loop-holds : tie.Need-loop-holds Inv-loop μ-loop
-loop-holds c = let a = c .before .before .args in (omega arith, none-turned (a .dx) (a .dy) (a .w) (a .h) (a .bytes .now))
+loop-holds c = let a = c .before .args in (omega arith, none-turned (a .dx) (a .dy) (a .w) (a .h) (a .bytes .now))
 
 turn-row-requires : tie.Need-turn-row-requires Inv-loop μ-loop
 turn-row-requires c κs = omega arith
@@ -29,28 +29,28 @@ turn-row-requires c κs = omega arith
 -- the row that is moved, and the one it becomes, lie inside
 room : (c : tie.After-turn-row Inv-loop μ-loop) →
     let r = c .turn-row .result in
-    let a = c .before .before .before .before .before .args in
+    let a = c .before .before .before .before .args in
     (r < staying (a .dy) (a .h)) × ((r + a .dy .minus) * a .w + a .w ≤ a .h * a .w) × ((r + a .dy .plus) * a .w + a .w ≤ a .h * a .w)
 room c =
     let at = c .before .before in
-    let a = at .before .before .before .args in
+    let a = at .before .before .args in
     let l = turn-in (a .dy) (staying (a .dy) (a .h)) (at .loop .k) (omega arith) in
     (omega arith, row-fits (a .w) (a .h) (c .turn-row .result + a .dy .minus) (omega arith), row-fits (a .w) (a .h) (c .turn-row .result + a .dy .plus) (omega arith))
 
 add-move-run : tie.Need-add-move-run Inv-loop μ-loop
-add-move-run c = omega (arith, room (c .before .before))
+add-move-run c = omega (arith, room (c .before))
 
 mul-move-run : tie.Need-mul-move-run Inv-loop μ-loop
-mul-move-run c = omega (arith, room (c .before .before))
+mul-move-run c = omega (arith, room (c .before))
 
 add-move-run-2 : tie.Need-add-move-run-2 Inv-loop μ-loop
-add-move-run-2 c = omega (arith, room (c .before .before .before))
+add-move-run-2 c = omega (arith, room (c .before))
 
 mul-move-run-2 : tie.Need-mul-move-run-2 Inv-loop μ-loop
-mul-move-run-2 c = omega (arith, room (c .before .before .before))
+mul-move-run-2 c = omega (arith, room (c .before))
 
 move-run-requires : tie.Need-move-run-requires Inv-loop μ-loop
-move-run-requires c κs = let f = room (c .before .before .before) in (omega arith, omega arith, omega arith, omega arith)
+move-run-requires c κs = let f = room (c .before) in (omega arith, omega arith, omega arith, omega arith)
 
 add-k : tie.Need-add-k Inv-loop μ-loop
 add-k c = omega arith
@@ -60,9 +60,9 @@ loop-less c = omega arith
 
 loop-again : tie.Need-loop-again Inv-loop μ-loop
 loop-again c =
-    let turn = c .before .before .before .before .before .before in
+    let turn = c .before .before .before .before in
     let at = turn .before .before in
-    let a = at .before .before .before .args in (
+    let a = at .before .before .args in (
       omega arith,
       rw (c .before .before .move-run .ensures, turn .turn-row .ensures)
           (row-turned (a .dx) (a .dy) (a .w) (a .h) (a .bytes .now) (omega arith) (omega arith) (omega arith) (at .loop .k) (at .loop .bytes) (at .loop .inv .1) (omega arith)),
@@ -70,28 +70,28 @@ loop-again c =
 
 -- the rows above and below
 ends : (c : tie.After-loop Inv-loop μ-loop) →
-    let a = c .before .before .before .before .args in
+    let a = c .before .before .before .args in
     let n = a .dy .plus + staying (a .dy) (a .h) in
     (a .dy .plus * a .w ≤ n * a .w) × (n * a .w + a .dy .minus * a .w ≡ a .h * a .w)
-ends c = let a = c .before .before .before .before .args in rows-split (a .dy) (a .w) (a .h) (omega arith)
+ends c = let a = c .before .before .before .args in rows-split (a .dy) (a .w) (a .h) (omega arith)
 
 mul-clear-run : tie.Need-mul-clear-run Inv-loop μ-loop
-mul-clear-run c = omega (arith, ends (c .before .before))
+mul-clear-run c = omega (arith, ends (c .before))
 
 clear-run-requires : tie.Need-clear-run-requires Inv-loop μ-loop
-clear-run-requires c κs = omega (arith, ends (c .before .before))
+clear-run-requires c κs = omega (arith, ends (c .before))
 
 add-clear-run : tie.Need-add-clear-run Inv-loop μ-loop
-add-clear-run c = omega (arith, ends (c .before .before .before .before .before .before .before))
+add-clear-run c = omega (arith, ends (c .before .before .before .before .before))
 
 mul-clear-run-2 : tie.Need-mul-clear-run-2 Inv-loop μ-loop
-mul-clear-run-2 c = omega (arith, ends (c .before .before .before .before .before .before .before))
+mul-clear-run-2 c = omega (arith, ends (c .before .before .before .before .before))
 
 mul-clear-run-3 : tie.Need-mul-clear-run-3 Inv-loop μ-loop
-mul-clear-run-3 c = omega (arith, ends (c .before .before .before .before .before .before .before .before))
+mul-clear-run-3 c = omega (arith, ends (c .before .before .before .before .before))
 
 clear-run-requires-2 : tie.Need-clear-run-requires-2 Inv-loop μ-loop
-clear-run-requires-2 c κs = omega (arith, ends (c .before .before .before .before .before .before .before .before))
+clear-run-requires-2 c κs = omega (arith, ends (c .before .before .before .before .before))
 
 same-length : tie.Need-same-length Inv-loop μ-loop
 same-length c = omega arith
@@ -99,9 +99,9 @@ same-length c = omega arith
 returns : tie.Need-returns Inv-loop μ-loop
 returns c =
     let last = c .before .before in
-    let first = last .before .before .before .before .before .before in
-    let at = first .before .before .before .before in
-    let a = at .before .before .before .args in
+    let first = last .before .before .before .before in
+    let at = first .before .before .before in
+    let a = at .before .before .args in
     let n = a .dy .plus + staying (a .dy) (a .h) in
     last .clear-run2 .ensures
     ∙ ap (zeroed (n * a .w) (a .dy .minus * a .w)) (first .clear-run .ensures)

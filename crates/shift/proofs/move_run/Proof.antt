@@ -41,9 +41,9 @@ same-length c = search needs
 returns : tie.Need-returns
 returns c =
     let last = c .before .before in
-    let first = last .before .before .before .before .before in
+    let first = last .before .before .before .before in
     let copy = first .before .before .before .before in
-    let a = copy .before .before .before .before .before .before .args in
+    let a = copy .before .before .before .args in
     let kept = a .w - (a .d .plus + a .d .minus) in
     last .clear-run2 .ensures
     ∙ ap (zeroed (a .to + a .d .plus + kept) (a .d .minus)) (first .clear-run .ensures ∙ ap (zeroed (a .to) (a .d .plus)) (copy .copy-run .ensures))
