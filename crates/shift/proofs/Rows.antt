@@ -79,7 +79,7 @@ module _ (dx : Offset) (w h z y : ℕ) (bytes : List ℕ) (exact : length bytes 
       by-test true t = rule-before dx w (z * w) (y * w) bytes (q * w + x) (omega (arith, row-fits w y q (ltb-true q y t)))
       by-test false t = let k = ltb-false q y t in rule-past dx w (z * w) (y * w) bytes (q * w + x) (omega (arith, row-fits w q y (omega arith)))
 
-module _ (dx dy : Offset) (w h : ℕ) (old : List ℕ) (exact : length old ≡ h * w) (one : OneWay dy) (wide : 0 < w) where
+module _ (dx dy : Offset) (w h : ℕ) (old : List ℕ) (exact : length old ≡ h * w) (one : OneWay dy) (wide : dx .plus + dx .minus < w) where
   abbrev n : ℕ
   n = staying dy h
 
@@ -148,4 +148,4 @@ module _ (dx dy : Offset) (w h : ℕ) (old : List ℕ) (exact : length old ≡ h
       ends-zeroed (h * w) _ bytes 0 (dy .plus * w) ((dy .plus + n) * w) (dy .minus * w) (t .same ∙ exact)
       (λ j l.
       ap (λ (i : ℕ). blank ((dy .plus + n) * w) (dy .minus * w) i (blank 0 (dy .plus * w) i (lineOf bytes i))) (sym (div-add-mod' j w))
-      ∙ rows-at k bytes t all fits (j % w) (j / w) (mod-lt j wide) (div-lt-iff-lt-mul wide .1 l) (find n (j / w) (dy .plus)))
+      ∙ rows-at k bytes t all fits (j % w) (j / w) (mod-lt j (omega arith)) (div-lt-iff-lt-mul (omega arith) .1 l) (find n (j / w) (dy .plus)))

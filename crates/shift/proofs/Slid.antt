@@ -2,7 +2,6 @@
 use mathlib.Core.Path.{_≡_}
 use mathlib.Core.List.{List}
 use Prim.Native.Nat.{ℕ, _+_}
-use native.Mathlib.Omega.{arith}
 use lib.ListN.{length}
 use Rattle.binary32.specs.declared.Offset.{Offset}
 use Rattle.shift.specs.Bytes.{lineOf, slid}

@@ -1,6 +1,6 @@
 -- The first i bytes are copied, each read before it was overwritten, and the rest is as it was.
 use mathlib.Core.Path.{_≡_, refl, sym, _∙_}
-use Prim.Native.Nat.{ℕ, _+_, _-_, _≤_}
+use Prim.Native.Nat.{_+_, _-_, _≤_}
 use native.Mathlib.Omega.{arith}
 use lib.ListN.{length, length-set}
 use Rattle.shift.specs.Bytes.{still, runMoved}

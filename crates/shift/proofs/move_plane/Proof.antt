@@ -1,7 +1,6 @@
 -- Where something lies inside, either way moves the plane; else all bytes are set to zero.
 use mathlib.Core.Path.{sym, _∙_}
 use Prim.Native.Nat.{_+_, _<_}
-use native.Mathlib.Omega.{arith}
 use Rattle.shift.proofs.Plane.{some-inside, out-zeroed}
 use borrow.Author.Needs.{needs}
 use Rattle.shift.proofs.move_plane.Statement.{statement}
@@ -35,7 +34,7 @@ add-if2-2 : tie.Need-add-if2-2
 add-if2-2 c = search needs
 
 move-rows-requires : tie.Need-move-rows-requires
-move-rows-requires c κs = let r = room (c .before .before .before) in (omega arith, omega arith, omega arith, r .0, r .1)
+move-rows-requires c κs = let p = c .before .before .before .before .before .before .pre in let r = room (c .before .before .before) in (p .0, p .1, p .2, r .0, r .1)
 
 same-length-2 : tie.Need-same-length-2
 same-length-2 c = search needs
@@ -44,7 +43,7 @@ returns-2 : tie.Need-returns-2
 returns-2 c = search needs
 
 move-flat-requires : tie.Need-move-flat-requires
-move-flat-requires c κs = let r = room (c .before .before .before) in (omega arith, omega arith, omega arith, r .0, r .1)
+move-flat-requires c κs = let p = c .before .before .before .before .before .before .pre in let r = room (c .before .before .before) in (p .0, p .1, p .2, r .0, r .1)
 
 same-length-3 : tie.Need-same-length-3
 same-length-3 c = search needs

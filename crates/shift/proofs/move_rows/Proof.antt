@@ -50,7 +50,7 @@ mul-move-run-2 : tie.Need-mul-move-run-2 Inv-loop μ-loop
 mul-move-run-2 c = omega (arith, room (c .before))
 
 move-run-requires : tie.Need-move-run-requires Inv-loop μ-loop
-move-run-requires c κs = let f = room (c .before) in (omega arith, omega arith, omega arith, omega arith)
+move-run-requires c κs = let f = room (c .before) in (omega arith, omega arith, c .before .before .before .before .before .pre .1, omega arith)
 
 add-k : tie.Need-add-k Inv-loop μ-loop
 add-k c = omega arith
@@ -62,10 +62,11 @@ loop-again : tie.Need-loop-again Inv-loop μ-loop
 loop-again c =
     let turn = c .before .before .before .before in
     let at = turn .before .before in
-    let a = at .before .before .args in (
+    let s = at .before .before in
+    let a = s .args in (
       omega arith,
       rw (c .before .before .move-run .ensures, turn .turn-row .ensures)
-          (row-turned (a .dx) (a .dy) (a .w) (a .h) (a .bytes .now) (omega arith) (omega arith) (omega arith) (at .loop .k) (at .loop .bytes) (at .loop .inv .1) (omega arith)),
+          (row-turned (a .dx) (a .dy) (a .w) (a .h) (a .bytes .now) (s .pre .0) (s .pre .2) (s .pre .3) (at .loop .k) (at .loop .bytes) (at .loop .inv .1) (omega arith)),
     )
 
 -- the rows above and below
@@ -73,7 +74,7 @@ ends : (c : tie.After-loop Inv-loop μ-loop) →
     let a = c .before .before .before .args in
     let n = a .dy .plus + staying (a .dy) (a .h) in
     (a .dy .plus * a .w ≤ n * a .w) × (n * a .w + a .dy .minus * a .w ≡ a .h * a .w)
-ends c = let a = c .before .before .before .args in rows-split (a .dy) (a .w) (a .h) (omega arith)
+ends c = let a = c .before .before .before .args in rows-split (a .dy) (a .w) (a .h) (c .before .before .before .pre .4)
 
 mul-clear-run : tie.Need-mul-clear-run Inv-loop μ-loop
 mul-clear-run c = omega (arith, ends (c .before))
@@ -101,11 +102,12 @@ returns c =
     let last = c .before .before in
     let first = last .before .before .before .before in
     let at = first .before .before .before in
-    let a = at .before .before .args in
+    let s = at .before .before in
+    let a = s .args in
     let n = a .dy .plus + staying (a .dy) (a .h) in
     last .clear-run2 .ensures
     ∙ ap (zeroed (n * a .w) (a .dy .minus * a .w)) (first .clear-run .ensures)
-    ∙ rows-moved (a .dx) (a .dy) (a .w) (a .h) (a .bytes .now) (omega arith) (omega arith) (omega arith) (at .loop .k) (at .loop .bytes) (at .loop .inv .1) (omega arith) (omega arith)
+    ∙ rows-moved (a .dx) (a .dy) (a .w) (a .h) (a .bytes .now) (s .pre .0) (s .pre .2) (s .pre .3) (at .loop .k) (at .loop .bytes) (at .loop .inv .1) (omega arith) (s .pre .4)
 
 pub move-rows-spec : {M : Type 1} → statement M
 move-rows-spec =
