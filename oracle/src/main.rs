@@ -77,7 +77,8 @@ fn shown(print: impl FnOnce()) -> bool {
     true
 }
 
-const COMMANDS: &str = "quick | full | classes | vectors FILE | replay FILE | distance | attain | bench [LARGEST SIDE]";
+const COMMANDS: &str =
+    "quick | full | classes | vectors [FILE] | replay [FILE] | distance | attain | bench [LARGEST SIDE]";
 
 fn main() -> ExitCode {
     rust::quiet_attempts();
@@ -90,7 +91,9 @@ fn main() -> ExitCode {
         ["quick"] => compare_all(Amount::Quick),
         ["full"] => compare_all(Amount::Full),
         ["classes"] => shown(smallest::print),
+        ["vectors"] => vectors::store(vectors::STORED),
         ["vectors", file] => vectors::store(file),
+        ["replay"] => vectors::replay(library::under_test(), vectors::STORED),
         ["replay", file] => vectors::replay(library::under_test(), file),
         ["distance"] => distance::print(60_000),
         ["attain"] => shown(distance::attain),

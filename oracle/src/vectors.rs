@@ -6,6 +6,9 @@ use crate::inputs;
 use crate::library::{Library, RULE};
 use crate::random::Random;
 
+/// Where the vectors are stored: the input of the program that replays them.
+pub const STORED: &str = concat!(env!("CARGO_MANIFEST_DIR"), "/../crates/replay/stdin");
+
 /// How many leading bytes of a work buffer are zero; the others must be as before.
 fn zeroed(buffer: &[u8]) -> usize {
     buffer.iter().take_while(|byte| **byte == 0).count()
@@ -163,8 +166,24 @@ fn cases() -> Vec<Case> {
         cases.extend((0..12).map(|_| generate::accepted(&mut random, *entry)));
     }
     generate::refusals(&mut random, 2, 2, &mut |case| cases.push(case));
-    cases.retain(|case| case.picture.len() < 150 || case.is_plate() && case.picture.len() < 400);
-    cases.into_iter().map(tidy).collect()
+    cases.extend(border_shifts(&mut random));
+    cases.into_iter().map(tidy).filter(is_small).collect()
+}
+
+/// Every limit of the shift's arithmetic along y alone, and every whole offset that reaches one past the border.
+fn border_shifts(random: &mut Random) -> Vec<Case> {
+    let mut cases: Vec<Case> = inputs::OFFSETS.map(|dy| generate::shift(random, 3, 2, 0.0, dy)).into();
+    for i in 0..63 {
+        let (dx, dy) = (i % 9 - 4, i / 9 - 3);
+        cases.push(generate::shift(random, 3, 2, dx as f32, dy as f32));
+    }
+    cases
+}
+
+/// What fits the buffers of the crate `replay`.
+fn is_small(case: &Case) -> bool {
+    let bytes = case.picture.len();
+    case.scratch.max(case.copy) <= 512 && (bytes < 150 || case.is_plate() && bytes < 400)
 }
 
 /// Writes the vectors; each was compared with the Rust first.

@@ -1,0 +1,2 @@
+-- What a line can add to a count.
+pub mod Counts

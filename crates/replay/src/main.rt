@@ -1,0 +1,134 @@
+// Runs the stored vectors on standard input through the library, and prints how many agree.
+use libc::STDIN_FILENO;
+use libc::STDOUT_FILENO;
+use vector_values::text;
+use vectors::agrees;
+use vectors::is_of;
+ghost use Prim.Native.Nat.{_≤_};
+ghost use Rattle.replay.specs.Counts.{OneMore};
+
+// The most bytes that the program takes.
+const LONGEST: usize = 262144;
+
+// How many vectors of an entry there are, how many of them agree, and the line of the first that does not, or 0.
+struct Tally {
+    seen: u64,
+    agreed: u64,
+    first: u64,
+}
+
+// What a line adds to the counts of an entry. Entry 0 stands for every line, broken ones too.
+struct Seen {
+    seen: u64,
+    agreed: u64,
+}
+
+fn verdict(line: &[u8], entry: u64) -> Seen
+    ensures { λ r. ⌜ OneMore (r .seen) (r .agreed) ⌝ }
+{
+    let mut space = text::buffer();
+    let n = text::numbers(line, &mut space);
+    judged(&space[0..n], entry)
+}
+
+fn judged(v: &[u64], entry: u64) -> Seen
+    ensures { λ r. ⌜ OneMore (r .seen) (r .agreed) ⌝ }
+{
+    if entry != 0 {
+        if !is_of(v, entry) {
+            return Seen { seen: 0, agreed: 0 };
+        }
+    }
+    if agrees(v) {
+        Seen { seen: 1, agreed: 1 }
+    } else {
+        Seen { seen: 1, agreed: 0 }
+    }
+}
+
+// The line of the first vector that disagrees, after one line more.
+fn first_after(first: u64, line: u64, s: Seen) -> u64 {
+    if first == 0 {
+        if s.agreed < s.seen {
+            return line;
+        }
+    }
+    first
+}
+
+fn count(input: &[u8], entry: u64) -> Tally {
+    let mut seen = 0u64;
+    let mut agreed = 0u64;
+    let mut first = 0u64;
+    let mut line = 0u64;
+    let mut at = 0usize;
+    while at < input.len() {
+        let end = text::line_end(input, at);
+        let s = verdict(&input[at..end], entry);
+        line += 1;
+        seen += s.seen;
+        agreed += s.agreed;
+        first = first_after(first, line, s);
+        at = end + 1;
+    }
+    Tally {
+        seen,
+        agreed,
+        first,
+    }
+}
+
+fn print_count(name: &[u8], c: Tally) {
+    io::write_all(STDOUT_FILENO, name);
+    io::write_all(STDOUT_FILENO, b" ");
+    io::print_decimal(STDOUT_FILENO, c.agreed);
+    io::write_all(STDOUT_FILENO, b" of ");
+    io::print_decimal(STDOUT_FILENO, c.seen);
+    io::write_all(STDOUT_FILENO, b"\n");
+}
+
+// Every line is counted anew for the totals, so that a line of no entry is in them.
+fn print_totals(c: Tally) {
+    if c.first != 0 {
+        io::write_all(STDOUT_FILENO, b"first that disagrees: line ");
+        io::print_decimal(STDOUT_FILENO, c.first);
+        io::write_all(STDOUT_FILENO, b"\n");
+    }
+    print_count(b"all", c);
+}
+
+fn report_filters(input: &[u8]) {
+    print_count(b"blur", count(input, 1));
+    print_count(b"shift", count(input, 2));
+    print_count(b"shadow", count(input, 3));
+}
+
+fn report_grades(input: &[u8]) {
+    print_count(b"check", count(input, 4));
+    print_count(b"view", count(input, 5));
+    print_count(b"sample", count(input, 6));
+    print_count(b"spread", count(input, 7));
+}
+
+fn report_plates(input: &[u8]) {
+    print_count(b"plate picture", count(input, 8));
+    print_count(b"plate job", count(input, 9));
+}
+
+fn report(input: &[u8]) {
+    report_filters(input);
+    report_grades(input);
+    report_plates(input);
+    print_totals(count(input, 0));
+}
+
+// One byte more than the program takes is read, so that no vector is left out unsaid.
+fn main() {
+    let mut input = [0u8; LONGEST + 1];
+    let n = io::read_full(STDIN_FILENO, &mut input);
+    if LONGEST < n {
+        io::write_all(STDOUT_FILENO, b"the input is too long\n");
+    } else {
+        report(&input[..n]);
+    }
+}

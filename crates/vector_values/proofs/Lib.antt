@@ -1,0 +1,4 @@
+-- Laws of the definitions of specs/.
+pub mod Numerals
+pub mod Filled
+pub mod Patterns

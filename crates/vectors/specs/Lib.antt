@@ -1,0 +1,2 @@
+-- Where the parts of a vector lie.
+pub mod Parts
