@@ -1,14 +1,15 @@
 /* How much stack each call uses: it runs in a thread whose stack is painted before, and the paint that is left is counted. */
+#define _POSIX_C_SOURCE 200809L
 #include <pthread.h>
 #include <stdio.h>
 #include <string.h>
 
 #include "corbelrush.h"
 
-enum { W = 4096, H = 64, BYTES = 4 * W * H, STACK = 4 << 20, PAINT = 0xA5 };
+enum { W = 4096, H = 64, BYTES = 4 * W * H, STACK = 4 << 20, PAINT = 0xA5, DEEPEST = 12 };
 
 static uint8_t stack[STACK] __attribute__((aligned(4096)));
-static uint8_t picture[BYTES], scratch[BYTES];
+static uint8_t picture[BYTES], scratch[BYTES], copy[BYTES];
 static float weights[33];
 
 static void *nothing(void *arg) { return arg; }
@@ -23,6 +24,15 @@ static void *blur(void *arg)
 static void *shift(void *arg)
 {
     corbelrush_shift(picture, BYTES, W, H, 3.0f, -5.0f);
+    corbelrush_shift(picture, BYTES, W, H, -2000.0f, 5.0f);
+    return arg;
+}
+
+static void *shadow(void *arg)
+{
+    for (uint32_t edge = 0; edge < 4; edge++)
+        corbelrush_shadow(picture, BYTES, W, H, scratch, BYTES, copy, BYTES, weights, 33, *(uint32_t *)arg, edge, 3.0f, -5.0f,
+                          1.0f, 0.5f, 0.5f, 0.5f, 0.5f, 1);
     return arg;
 }
 
@@ -42,11 +52,11 @@ static size_t used(void *(*run)(void *), void *arg)
 
 int main(void)
 {
-    static uint32_t depths[] = {0, 1, 12};
+    used(nothing, NULL); /* the first thread binds symbols, on its own stack */
     size_t thread = used(nothing, NULL);
     for (int i = 0; i < 33; i++) weights[i] = 1.0f / 64;
-    for (int i = 0; i < 3; i++)
-        printf("blur, n = %u: %zu bytes\n", (unsigned)depths[i], used(blur, &depths[i]) - thread);
+    for (uint32_t n = 0; n <= DEEPEST; n++)
+        printf("n = %2u: blur %zu bytes, shadow %zu\n", (unsigned)n, used(blur, &n) - thread, used(shadow, &n) - thread);
     printf("shift: %zu bytes\n", used(shift, NULL) - thread);
     return 0;
 }

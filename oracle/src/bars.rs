@@ -12,10 +12,11 @@ fn ratios(rows: &[Row], keep: impl Fn(&str, (u32, u32)) -> bool) -> Vec<f64> {
     kept.filter_map(|(_, _, m)| m.theirs.map(|theirs| m.ours / theirs)).collect()
 }
 
-/// How much more a pixel of each line costs at 4096 square than at 256; of our time.
-fn growth(rows: &[Row]) -> Vec<f64> {
+/// How much more a pixel of each line that is kept costs at 4096 square than at 256; of our time.
+fn growth(rows: &[Row], keep: impl Fn(&str) -> bool) -> Vec<f64> {
     let at = |name: &str, side| rows.iter().find(|(n, s, _)| n == name && square(*s, &[side])).map(|(_, _, m)| m.ours);
-    rows.iter().filter_map(|(name, ..)| Some(at(name, 4096)? / at(name, 256)?)).collect()
+    let kept = rows.iter().filter(|(name, ..)| keep(name));
+    kept.filter_map(|(name, ..)| Some(at(name, 4096)? / at(name, 256)?)).collect()
 }
 
 /// How much more the dearest edge mode costs than the cheapest, for each kernel from 256 square on.
@@ -43,7 +44,8 @@ pub fn print(rows: &[Row]) {
             ratios(rows, |name, size| name.starts_with("shadow") && !small(size)),
         ),
         ("everything at 16 and 64 square", 0.60, ratios(rows, |_, size| small(size))),
-        ("a pixel at 4096 square against 256", 1.2, growth(rows)),
+        ("a pixel at 4096 square against 256", 1.2, growth(rows, |name| name != "shift by half")),
+        ("that of a shift by half, at memory's speed", 1.2, growth(rows, |name| name == "shift by half")),
         ("the dearest edge mode against the cheapest", 1.1, modes_apart(rows)),
     ];
     for (what, bar, seen) in bars {
