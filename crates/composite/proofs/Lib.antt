@@ -2,5 +2,4 @@
 pub mod Within
 pub mod Units
 pub mod Whole
-pub mod Painting
 pub mod Table

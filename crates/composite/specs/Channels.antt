@@ -1,6 +1,6 @@
 -- The shadow's arithmetic on channels: each operation is one of binary32, in the order of `drop_shadow.rs`.
 use mathlib.Core.Bool.{cond}
-use Prim.Native.Nat.{ℕ, _*_, _/_}
+use Prim.Native.Nat.{ℕ}
 use lib.IntN.{pos}
 use lib.Ieee.{Float, binary32, add, sub, mul, div, ofInt, lt}
 use Rattle.binary32.specs.Ranges.{one32}
@@ -21,10 +21,6 @@ atMostOne x = cond (lt x one32) x one32
 -- the shadow's alpha, of the colour's alpha and the copy's: (a/255 · colour alpha), at most 1, times 255, rounded
 unfoldable pub shadowAlpha : Float → ℕ → ℕ
 shadowAlpha alpha a = normByte (atMostOne (mul binary32 (norm a) alpha))
-
--- a channel multiplied by its alpha: floor(channel·alpha / 255)
-unfoldable pub premultiply : ℕ → ℕ → ℕ
-premultiply channel alpha = channel * alpha / 255
 
 -- a channel of the source over that of the destination: src/255 + dst/255 · (1 - src alpha/255), times 255, rounded and held at 255
 unfoldable pub over : ℕ → ℕ → ℕ → ℕ

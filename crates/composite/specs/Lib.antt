@@ -1,4 +1,3 @@
 -- The definitions that contracts cite of a coloured shadow, and of a picture over another.
 pub mod Channels
-pub mod Pixels
 pub mod Shadow

@@ -6,7 +6,8 @@ use Prim.Native.Nat.{ℕ, zero, suc}
 use Rattle.picture.specs.Planes.{chan, painted}
 use Rattle.picture.specs.declared.Pixel.{Pixel}
 use Rattle.binary32.specs.Ranges.{outsideUnit}
-use Rattle.composite.specs.Channels.{normByte, shadowAlpha, premultiply, over}
+use Rattle.pixels.specs.Channels.{premultiply}
+use Rattle.composite.specs.Channels.{normByte, shadowAlpha, over}
 use Rattle.composite.specs.declared.Colour.{Colour}
 
 -- each component is from 0 to 1

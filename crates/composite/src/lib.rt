@@ -1,18 +1,22 @@
 // The coloured shadow, and the original over it.
-use picture::LevelSize;
+use picture::FullSize;
 use picture::Pixel;
+use pixels::copy_bytes;
+use pixels::pixel_at;
+use pixels::premultiply;
+use pixels::set_pixel;
+use pixels::wide;
 ghost use mathlib.Core.Path.{_≡_};
-ghost use Prim.Native.Nat.{_+_, _*_, _≤_};
 ghost use lib.Dec.{T};
 ghost use lib.Ieee.{binary32, mul};
 ghost use lib.ListN.{length};
 ghost use mathlib.Core.Bool.{false};
 ghost use Rattle.picture.specs.Planes.{painted};
-ghost use Rattle.picture.specs.Sizes.{Sized, levelBytes};
+ghost use Rattle.picture.specs.Sizes.{fullBytes, Pictured};
 ghost use Rattle.binary32.specs.Ranges.{outsideUnit, nonneg};
 ghost use Rattle.binary32.specs.Round.{top32};
-ghost use Rattle.composite.specs.Channels.{norm, normByte, atMostOne, shadowAlpha, premultiply, over};
-ghost use Rattle.composite.specs.Pixels.{pixel, pixelAt, withPixel};
+ghost use Rattle.composite.specs.Channels.{norm, normByte, atMostOne, shadowAlpha, over};
+ghost use Rattle.pixels.specs.Pixels.{pixel};
 ghost use Rattle.composite.specs.Shadow.{InUnit, shadowOf, looked, coloured, overPixel, composed, written};
 
 // A colour, its components from 0 to 1.
@@ -52,18 +56,6 @@ fn shadow_alpha(colour: f32, alpha: u8) -> u8
     norm_to_u8(at_most_one(x))
 }
 
-fn wide(x: u8) -> u16
-    ensures { λ r. ⌜ r ≡ x ⌝ }
-{
-    x as u16
-}
-
-fn premultiply(channel: u8, alpha: u8) -> u8
-    ensures { λ r. ⌜ r ≡ premultiply channel alpha ⌝ }
-{
-    (wide(channel) * wide(alpha) / 255) as u8
-}
-
 // In whole numbers: the binary32 rule gives the same for all bytes.
 fn src_over_channel(src: u8, dst: u8, alpha: u8) -> u8
     ensures { λ r. ⌜ r ≡ over src dst alpha ⌝ }
@@ -82,29 +74,6 @@ pub fn compose_src_over(src: Pixel, dst: Pixel) -> Pixel
         b: src_over_channel(src.b, dst.b, src.a),
         a: src_over_channel(src.a, dst.a, src.a),
     }
-}
-
-// Pixel i of all.
-fn pixel_at(bytes: &[u8], i: usize) -> Pixel
-    requires { ⌜ 4 * i + 4 ≤ length (now bytes) ⌝ }
-    ensures { λ r. ⌜ r ≡ pixelAt (now (bytes .entry)) i ⌝ }
-{
-    Pixel {
-        r: bytes[4 * i],
-        g: bytes[4 * i + 1],
-        b: bytes[4 * i + 2],
-        a: bytes[4 * i + 3],
-    }
-}
-
-fn set_pixel(bytes: &mut [u8], i: usize, p: Pixel)
-    requires { ⌜ 4 * i + 4 ≤ length (now bytes) ⌝ }
-    ensures { λ _. ⌜ now (bytes .exit) ≡ withPixel (now (bytes .entry)) i p ⌝ }
-{
-    bytes[4 * i] = p.r;
-    bytes[4 * i + 1] = p.g;
-    bytes[4 * i + 2] = p.b;
-    bytes[4 * i + 3] = p.a;
 }
 
 // The shadow's pixel where the copy has this alpha.
@@ -134,11 +103,11 @@ fn shadow_table(table: &mut [u8], colour: Colour)
 }
 
 // Puts the table's pixel of its alpha in each pixel's place.
-fn look_up(copy: &mut [u8], s: LevelSize, table: &[u8])
-    requires { ⌜ Sized s ⌝ ∗ ⌜ length (now copy) ≡ levelBytes s ⌝ ∗ ⌜ length (now table) ≡ 1024 ⌝ }
-    ensures { λ _. ⌜ now (copy .exit) ≡ looked (now (table .entry)) (s .w) (s .h) (now (copy .entry)) ⌝ }
+fn look_up(copy: &mut [u8], size: FullSize, table: &[u8])
+    requires { ⌜ Pictured (size .w) (size .h) (now copy) ⌝ ∗ ⌜ length (now table) ≡ 1024 ⌝ }
+    ensures { λ _. ⌜ now (copy .exit) ≡ looked (now (table .entry)) (size .w) (size .h) (now (copy .entry)) ⌝ }
 {
-    let n = s.bytes() / 4;
+    let n = size.bytes() / 4;
     let mut i = 0;
     while i < n {
         let alpha = pixel_at(copy, i).a as usize;
@@ -147,21 +116,21 @@ fn look_up(copy: &mut [u8], s: LevelSize, table: &[u8])
     }
 }
 
-fn colour_copy(copy: &mut [u8], s: LevelSize, colour: Colour)
-    requires { ⌜ Sized s ⌝ ∗ ⌜ length (now copy) ≡ levelBytes s ⌝ ∗ ⌜ InUnit colour ⌝ }
-    ensures { λ _. ⌜ now (copy .exit) ≡ coloured colour (s .w) (s .h) (now (copy .entry)) ⌝ }
+fn colour_copy(copy: &mut [u8], size: FullSize, colour: Colour)
+    requires { ⌜ Pictured (size .w) (size .h) (now copy) ⌝ ∗ ⌜ InUnit colour ⌝ }
+    ensures { λ _. ⌜ now (copy .exit) ≡ coloured colour (size .w) (size .h) (now (copy .entry)) ⌝ }
 {
     let mut table = [0u8; 1024];
     shadow_table(&mut table, colour);
-    look_up(copy, s, &table);
+    look_up(copy, size, &table);
 }
 
 // The picture over its shadow, pixel by pixel.
-fn compose(picture: &mut [u8], s: LevelSize, shadow: &[u8])
-    requires { ⌜ Sized s ⌝ ∗ ⌜ length (now picture) ≡ levelBytes s ⌝ ∗ ⌜ length (now shadow) ≡ levelBytes s ⌝ }
-    ensures { λ _. ⌜ now (picture .exit) ≡ composed (s .w) (s .h) (now (picture .entry)) (now (shadow .entry)) ⌝ }
+fn compose(picture: &mut [u8], size: FullSize, shadow: &[u8])
+    requires { ⌜ Pictured (size .w) (size .h) (now picture) ⌝ ∗ ⌜ length (now shadow) ≡ fullBytes size ⌝ }
+    ensures { λ _. ⌜ now (picture .exit) ≡ composed (size .w) (size .h) (now (picture .entry)) (now (shadow .entry)) ⌝ }
 {
-    let n = s.bytes() / 4;
+    let n = size.bytes() / 4;
     let mut i = 0;
     while i < n {
         let out = compose_src_over(pixel_at(picture, i), pixel_at(shadow, i));
@@ -170,32 +139,20 @@ fn compose(picture: &mut [u8], s: LevelSize, shadow: &[u8])
     }
 }
 
-// Copies all bytes.
-pub fn copy_bytes(to: &mut [u8], from: &[u8])
-    requires { ⌜ length (now to) ≡ length (now from) ⌝ }
-    ensures { λ _. ⌜ now (to .exit) ≡ now (from .entry) ⌝ }
-{
-    let mut i = 0;
-    while i < to.len() {
-        to[i] = from[i];
-        i += 1;
-    }
-}
-
 // Colours the shadow, and lays the original over it where that is wanted.
 pub fn write_colored_shadow(
     copy: &mut [u8],
     picture: &mut [u8],
-    s: LevelSize,
+    size: FullSize,
     colour: Colour,
     composite: bool,
 )
-    requires { ⌜ Sized s ⌝ ∗ ⌜ InUnit colour ⌝ ∗ ⌜ length (now copy) ≡ levelBytes s ⌝ ∗ ⌜ length (now picture) ≡ levelBytes s ⌝ }
-    ensures { λ _. ⌜ now (picture .exit) ≡ written composite (s .w) (s .h) (now (picture .entry)) (coloured colour (s .w) (s .h) (now (copy .entry))) ⌝ }
+    requires { ⌜ Pictured (size .w) (size .h) (now copy) ⌝ ∗ ⌜ length (now picture) ≡ fullBytes size ⌝ ∗ ⌜ InUnit colour ⌝ }
+    ensures { λ _. ⌜ now (picture .exit) ≡ written composite (size .w) (size .h) (now (picture .entry)) (coloured colour (size .w) (size .h) (now (copy .entry))) ⌝ }
 {
-    colour_copy(copy, s, colour);
+    colour_copy(copy, size, colour);
     if composite {
-        compose(picture, s, copy);
+        compose(picture, size, copy);
     } else {
         copy_bytes(picture, copy);
     }

@@ -1,4 +1,4 @@
--- Laws of places: which pixel each has, and the scan from each on.
+-- Laws of places: the scan from each on.
 use mathlib.Core.Path.{_≡_}
 use mathlib.Core.Bool.{Bool, true, false}
 use mathlib.Core.List.{List}
@@ -6,25 +6,19 @@ use Prim.Native.Nat.{ℕ, suc, _+_, _-_, _*_, _<_, _≤_}
 use native.Mathlib.Nat.{add-mul, one-mul, sub-zero}
 use native.Mathlib.Numerals.{add-one}
 use native.Mathlib.Omega.{arith}
-use Rattle.picture.proofs.Planes.{remainder, quotient}
-use Rattle.grading.specs.Pixels.{pixelAt}
-use Rattle.grading.specs.Premultiplied.{exceeds, exceedsAt, Finding, none, foundAt, firstFrom, scanned}
+use Rattle.pixels.specs.Channels.{exceedsAt}
+use Rattle.grading.specs.Premultiplied.{Finding, none, foundAt, firstFrom, scanned}
 
 -- the place after a row's last is the next row's first
 pub next-row : (y w : ℕ) → (y + 1) * w ≡ y * w + w
 next-row y w = rw (add-mul, one-mul)
-
--- the place of pixel x, y has that pixel
-pub at-place : (bytes : List ℕ) (w x y : ℕ) → x < w → exceedsAt bytes w (y * w + x) ≡ exceeds (pixelAt bytes w x y)
-unfolding exceedsAt
-at-place bytes w x y l = rw (remainder w y x l, quotient w y x l)
 
 -- the scan of m places, from k on
 abbrev pub onward : (ℕ → Bool) → ℕ → ℕ → Finding
 onward f m k = firstFrom f k (m - k)
 
 -- the scan of a picture begins at place 0
-pub start : (bytes : List ℕ) (w h : ℕ) → scanned bytes w h ≡ onward (exceedsAt bytes w) (w * h) 0
+pub start : (bytes : List ℕ) (w h : ℕ) → scanned bytes w h ≡ onward (exceedsAt bytes) (w * h) 0
 unfolding scanned
 start bytes w h = rw sub-zero
 

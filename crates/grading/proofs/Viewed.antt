@@ -5,7 +5,7 @@ use mathlib.Core.List.{List, []}
 use Prim.Native.Nat.{ℕ}
 use lib.IntN.{ℤ}
 use denote.Ref.{RefT, now}
-use Rattle.picture.specs.Refusal.{firstOf, zeroOrAbove, wrongSides}
+use Rattle.picture.specs.Refusal.{firstElse, firstOf, zeroOrAbove, wrongSides}
 use Rattle.picture.specs.declared.Pixel.{Pixel}
 use Rattle.grading.specs.Sampling.{viewRefusal, accepts, clear, sampled, Seen, viewed}
 
@@ -18,7 +18,7 @@ seenSampled v x y = sampled (v .part .bytes) (v .w) (v .h) (v .edge) x y
 
 -- a picture of 0 by 0 is refused
 none-refused : (edge : ℕ) → accepts [] 0 0 edge ≡ false
-unfolding viewRefusal firstOf wrongSides zeroOrAbove
+unfolding viewRefusal firstOf firstElse wrongSides zeroOrAbove
 none-refused edge = refl
 
 pub viewed-sampled : (picture : RefT (List ℕ)) (w h edge : ℕ) (x y : ℤ) → seenSampled (viewed picture w h edge) x y ≡ sampled (now picture) w h edge x y

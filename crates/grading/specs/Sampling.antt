@@ -1,7 +1,7 @@
 -- The sampling view.
 use mathlib.Core.Bool.{Bool, cond}
 use mathlib.Core.List.{List, [], _∷_, _++_}
-use Prim.Native.Nat.{ℕ}
+use Prim.Native.Nat.{ℕ, _+_, _*_, _≤_}
 use lib.Dec.{eqb}
 use lib.IntN.{ℤ}
 use lib.ListN.{length}
@@ -12,7 +12,7 @@ use Rattle.picture.specs.declared.Pixel.{Pixel}
 use Rattle.edges.specs.Whole.{placeOf}
 use Rattle.edges.specs.declared.At.{At}
 use Rattle.edges.specs.declared.At.the-variants.{Inside, Outside}
-use Rattle.grading.specs.Pixels.{pixelAt, Holds}
+use Rattle.pixels.specs.Pixels.{pixelAt}
 use Rattle.grading.specs.declared.sampling.View.{View}
 
 -- checks 1, 2 and 9
@@ -32,20 +32,20 @@ abbrev pub clear : Pixel
 clear = record { r = 0; g = 0; b = 0; a = 0 }
 
 -- the pixel of a column and a row: four zeros where one of them is outside
-abbrev pub pixelOf : List ℕ → ℕ → At → At → Pixel
-pixelOf bytes w (Inside x) (Inside y) = pixelAt bytes w x y
-pixelOf bytes w (Inside x) Outside = clear
-pixelOf bytes w Outside row = clear
+abbrev pub sampledPixel : List ℕ → ℕ → At → At → Pixel
+sampledPixel bytes w (Inside x) (Inside y) = pixelAt bytes (y * w + x)
+sampledPixel bytes w (Inside x) Outside = clear
+sampledPixel bytes w Outside row = clear
 
 -- the bytes hold it
 abbrev pub Held : List ℕ → ℕ → At → At → Type 0
-Held bytes w (Inside x) (Inside y) = Holds bytes w x y
+Held bytes w (Inside x) (Inside y) = 4 * (y * w + x) + 4 ≤ length bytes
 Held bytes w (Inside x) Outside = Unit
 Held bytes w Outside row = Unit
 
 -- the pixel at x, y, each extended by the edge rule; a view that the checks refuse answers four zeros everywhere
 unfoldable pub sampled : List ℕ → ℕ → ℕ → ℕ → ℤ → ℤ → Pixel
-sampled bytes w h edge x y = cond (accepts bytes w h edge) (pixelOf bytes w (placeOf (modeOf edge) w x) (placeOf (modeOf edge) h y)) clear
+sampled bytes w h edge x y = cond (accepts bytes w h edge) (sampledPixel bytes w (placeOf (modeOf edge) w x) (placeOf (modeOf edge) h y)) clear
 
 -- a part of a slice: where it starts, and its bytes
 pub record Part : Type 0 where

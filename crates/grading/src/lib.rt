@@ -1,4 +1,3 @@
 // What graders ask of a picture: the premultiplied check and a sampling view.
-mod pixels;
 pub mod premultiplied;
 pub mod sampling;

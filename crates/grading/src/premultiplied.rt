@@ -1,10 +1,11 @@
 // The premultiplied check: the first pixel of which a channel exceeds alpha.
 ghost use mathlib.Core.Path.{_≡_};
 ghost use Rattle.picture.specs.Answer.{answered};
-ghost use Rattle.grading.specs.Pixels.{Whole};
-ghost use Rattle.grading.specs.Premultiplied.{numberOf, exceeds, scanned, checked, finding};
-use crate::pixels::pixel_at;
-use picture::Pixel;
+ghost use Rattle.picture.specs.Sizes.{Pictured};
+ghost use Rattle.grading.specs.Premultiplied.{checkNumber, scanned, checked, finding};
+use picture::FullSize;
+use pixels::exceeds;
+use pixels::pixel_at;
 
 // A place in a picture: the number y * w + x.
 pub struct Place {
@@ -20,7 +21,7 @@ pub enum PictureRefusal {
 impl PictureRefusal {
     // The refusal's number.
     pub fn number(self) -> u32
-        ensures { λ r. ⌜ r ≡ numberOf self ⌝ }
+        ensures { λ r. ⌜ r ≡ checkNumber self ⌝ }
     {
         match self {
             PictureRefusal::WrongSides => picture::WRONG_SIDES,
@@ -36,30 +37,19 @@ pub enum Checked {
     Exceeds(Place),
 }
 
-// Whether r, g or b exceeds a.
-fn exceeds(p: Pixel) -> bool
-    ensures { λ r. ⌜ r ≡ exceeds p ⌝ }
-{
-    if p.a < p.r {
-        return true;
-    }
-    if p.a < p.g {
-        return true;
-    }
-    p.a < p.b
-}
-
 // The first pixel that exceeds, rows downward, each left to right.
-fn scan(picture: &[u8], w: usize, h: usize) -> Checked
-    requires { ⌜ Whole (now picture) w h ⌝ }
-    ensures { λ r. ⌜ finding r ≡ answered 0 (scanned (now (picture .entry)) w h) ⌝ }
+pub fn scan(picture: &[u8], size: FullSize) -> Checked
+    requires { ⌜ Pictured (size .w) (size .h) (now picture) ⌝ }
+    ensures { λ r. ⌜ finding r ≡ answered 0 (scanned (now (picture .entry)) (size .w) (size .h)) ⌝ }
 {
+    let w = size.width();
+    let h = size.height();
     let mut found = Checked::Fits;
     let mut y = 0;
     'rows: while y < h {
         let mut x = 0;
         while x < w {
-            if exceeds(pixel_at(picture, w, x, y)) {
+            if exceeds(pixel_at(picture, y * w + x)) {
                 found = Checked::Exceeds(Place { at: y * w + x });
                 break 'rows;
             }
@@ -80,5 +70,5 @@ pub fn check(picture: &[u8], w: u32, h: u32) -> Checked
     if picture::wrong_length(picture.len(), w, h) {
         return Checked::Refused(PictureRefusal::WrongLength);
     }
-    scan(picture, w as usize, h as usize)
+    scan(picture, picture::full_size(w, h))
 }

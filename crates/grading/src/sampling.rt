@@ -1,9 +1,10 @@
 // The sampling view: a picture with its sizes and its edge rule, sampled at any two coordinates.
 ghost use mathlib.Core.Path.{_≡_};
-ghost use Rattle.grading.specs.Sampling.{viewRefusal, clear, Held, pixelOf, sampled, partOf, seenPart, seenSide, seen, viewed};
-use crate::pixels::pixel_at;
+ghost use Rattle.grading.specs.Sampling.{viewRefusal, clear, Held, sampledPixel, sampled, partOf, seenPart, seenSide, seen, viewed};
 use edges::At;
+use picture::FullSize;
 use picture::Pixel;
+use pixels::pixel_at;
 
 // A view of a picture, as anyone may make one.
 pub struct View<'a> {
@@ -17,13 +18,12 @@ pub struct View<'a> {
 pub fn view_refusal(picture: &[u8], w: u32, h: u32, edge: u32) -> u32
     ensures { λ r. ⌜ r ≡ viewRefusal (now (picture .entry)) w h edge ⌝ }
 {
-    let nine = picture::first(picture::WRONG_EDGE, picture::wrong_edge(edge), 0);
-    let two = picture::first(
-        picture::WRONG_LENGTH,
-        picture::wrong_length(picture.len(), w, h),
-        nine,
-    );
-    picture::first(picture::WRONG_SIDES, picture::wrong_sides(w, h), two)
+    picture::picture_refusal(
+        picture.len(),
+        w,
+        h,
+        picture::first(picture::WRONG_EDGE, picture::wrong_edge(edge), 0),
+    )
 }
 
 // Four zeros.
@@ -39,9 +39,9 @@ fn clear() -> Pixel
 }
 
 // The pixel of a column and a row: four zeros where one of them is outside.
-fn pixel_of(picture: &[u8], w: usize, column: At, row: At) -> Pixel
-    requires { ⌜ Held (now picture) w column row ⌝ }
-    ensures { λ r. ⌜ r ≡ pixelOf (now (picture .entry)) w column row ⌝ }
+fn pixel_of(picture: &[u8], size: FullSize, column: At, row: At) -> Pixel
+    requires { ⌜ Held (now picture) (size .w) column row ⌝ }
+    ensures { λ r. ⌜ r ≡ sampledPixel (now (picture .entry)) (size .w) column row ⌝ }
 {
     let At::Inside(x) = column else {
         return clear();
@@ -49,7 +49,7 @@ fn pixel_of(picture: &[u8], w: usize, column: At, row: At) -> Pixel
     let At::Inside(y) = row else {
         return clear();
     };
-    pixel_at(picture, w, x, y)
+    pixel_at(picture, y * size.width() + x)
 }
 
 // The pixel at x, y, each extended by the edge rule: four zeros everywhere where a check refuses.
@@ -59,10 +59,11 @@ pub fn sample_at(picture: &[u8], w: u32, h: u32, edge: u32, x: i32, y: i32) -> P
     if view_refusal(picture, w, h, edge) != 0 {
         return clear();
     }
+    let size = picture::full_size(w, h);
     let mode = picture::edge_mode(edge);
-    let column = edges::extend_signed(x, w as usize, mode);
-    let row = edges::extend_signed(y, h as usize, mode);
-    pixel_of(picture, w as usize, column, row)
+    let column = edges::extend_signed(x, size.width(), mode);
+    let row = edges::extend_signed(y, size.height(), mode);
+    pixel_of(picture, size, column, row)
 }
 
 // The part that a view holds: all of the picture, or none of it where a check refuses.

@@ -1,5 +1,5 @@
 -- Laws of lists given by a rule for each index.
-use mathlib.Core.Path.{_≡_, refl, ap}
+use mathlib.Core.Path.{_≡_, refl, ap, _∙_}
 use mathlib.Core.List.{List, [], _∷_, _++_, append-assoc}
 use Prim.Native.Nat.{ℕ, zero, suc, _+_, _<_}
 use native.Mathlib.Numerals.{add-one}
@@ -24,6 +24,10 @@ pub build-ext : (n : ℕ) (f : ℕ → ℕ) (l : List ℕ) → length l ≡ n �
 build-ext n f l e h =
     ext-getD 0 l (build n f) (rw length-build e)
     (λ i lt. let lt′ : i < n = omega arith in rw getD-build (h i lt′))
+
+-- two rules that agree
+pub build-same : (n : ℕ) (f g : ℕ → ℕ) → ((i : ℕ) → i < n → f i ≡ g i) → build n f ≡ build n g
+build-same n f g h = build-ext n g (build n f) (length-build n f) (λ i l. getD-build n f i l ∙ h i l)
 
 build-suc : (n : ℕ) (f : ℕ → ℕ) → build (suc n) f ≡ build n f ++ (f n ∷ [])
 unfolding build

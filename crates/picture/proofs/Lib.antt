@@ -5,5 +5,7 @@ pub mod Sizes
 pub mod Levels
 pub mod Build
 pub mod Planes
+pub mod Placed
+pub mod Walk
 pub mod Passed
 pub mod Answers

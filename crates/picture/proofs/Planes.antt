@@ -1,11 +1,11 @@
 -- Planes and bytes: each undoes the other inside the picture.
 use mathlib.Core.Path.{_≡_, _∙_, sym, ap}
-use mathlib.Core.List.{List}
+use mathlib.Core.List.{List, _++_}
 use Prim.Native.Nat.{ℕ, _+_, _*_, _/_, _%_, _<_}
 use native.Mathlib.Omega.{arith}
 use native.Mathlib.Nat.{mul-le-mul-right, add-mul, one-mul, zero-mul, add-zero, mul-comm, mod-lt, mod-eq-of-lt, div-eq-of-lt, div-lt-iff-lt-mul, div-add-mod', mul-add-div-right, mul-add-mod-self-right}
-use lib.ListN.{length, getD}
-use Rattle.picture.specs.Planes.{Plane, bytesOf, chan, painted}
+use lib.ListN.{length, getD, drop, replicate, length-replicate}
+use Rattle.picture.specs.Planes.{Plane, bytesOf, chan, painted, laid, cleared}
 use Rattle.picture.proofs.Build.{length-build, getD-build, build-ext}
 
 -- y whole groups of w and x more: y and x back from the place among all
@@ -59,3 +59,8 @@ pub painted-same : (w h : ℕ) (F G : ℕ → Plane) → ((c x y : ℕ) → c < 
 painted-same w h F G e =
     painted-ext w h G (painted w h F) (length-painted w h F)
     (λ c x y lc lx ly. chan-painted w h F c x y lc lx ly ∙ e c x y lc lx ly)
+
+-- a work buffer after a success: as many zeros, and the rest of it
+pub cleared-is : (n : ℕ) (work : List ℕ) → cleared n work ≡ replicate n 0 ++ drop n work
+unfolding cleared laid
+cleared-is n work = ap (λ (k : ℕ). replicate n 0 ++ drop k work) (length-replicate n 0)

@@ -1,12 +1,14 @@
 -- Laws of a level's size: checked sides give one, a half of one is one, and its bytes fit.
 use mathlib.Core.Path.{_≡_}
 use mathlib.Core.Bool.{false}
+use mathlib.Core.List.{List}
 use Prim.Native.Nat.{ℕ, _*_, _≤_, _<_}
 use native.Mathlib.Nat.{mul-le-mul, mul-le-mul-left, mul-pos}
 use native.Mathlib.Omega.{arith}
-use borrow.Author.Tests.{ltb-false, eqb-false}
-use Rattle.picture.specs.Sizes.{maxSide, sideRoom, half, levelSize, halfLevel, levelBytes, Sized}
-use Rattle.picture.specs.Refusal.{zeroOrAbove, wrongSides}
+use lib.ListN.{length}
+use borrow.Author.Tests.{ltb-false, eqb-true, eqb-false, not-false}
+use Rattle.picture.specs.Sizes.{maxSide, sideRoom, half, halfLevel, levelBytes, Sides, Sized, Pictured}
+use Rattle.picture.specs.Refusal.{zeroOrAbove, wrongSides, wrongLength}
 use Rattle.picture.specs.declared.LevelSize.{LevelSize}
 use Rattle.picture.proofs.Tests.{neither}
 
@@ -27,8 +29,8 @@ side s h =
     let low = eqb-false s 0 (n .0) in
     (omega arith, omega (arith, ltb-false maxSide s (n .1), side-fits))
 
--- sides that check 1 lets through are a level's
-pub full-sized : (w h : ℕ) → wrongSides w h ≡ false → Sized (levelSize w h)
+-- sides that check 1 lets through have room
+pub full-sized : (w h : ℕ) → wrongSides w h ≡ false → Sides w h
 unfolding wrongSides
 full-sized w h e =
     let n = neither _ _ e in
@@ -36,13 +38,19 @@ full-sized w h e =
     let b = side h (n .1) in
     record { w-low = a .0; w-high = a .1; h-low = b .0; h-high = b .1 }
 
-module _ (s : LevelSize) (z : Sized s) where
-  pub area : s .w * s .h ≤ 4294967296
-  area =
-      mul-le-mul {n₁ = s .w} {m₁ = s .h} {n₂ = 65536} {m₂ = 65536} (omega (arith, room-is, z .w-high)) (omega (arith, room-is, z .h-high))
+-- a picture that checks 1 and 2 let through is whole
+pub whole : (bytes : List ℕ) (w h : ℕ) → wrongSides w h ≡ false → wrongLength (length bytes) w h ≡ false → Pictured w h bytes
+unfolding wrongLength
+whole bytes w h s e = record { sized = full-sized w h s; exact = eqb-true _ _ (not-false _ e) }
 
-  pub pixels : 0 < s .w * s .h
+module _ {w h : ℕ} (z : Sides w h) where
+  pub area : w * h ≤ 4294967296
+  area = mul-le-mul {n₁ = w} {m₁ = h} {n₂ = 65536} {m₂ = 65536} (omega (arith, room-is, z .w-high)) (omega (arith, room-is, z .h-high))
+
+  pub pixels : 0 < w * h
   pixels = mul-pos (z .w-low) (z .h-low)
+
+module _ (s : LevelSize) (z : Sized s) where
 
   pub half-sized : Sized (halfLevel s)
   half-sized =

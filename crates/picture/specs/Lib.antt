@@ -1,6 +1,7 @@
 -- The definitions that contracts cite of a picture: its sizes, its bytes, its edge rules and its refusals.
 pub mod Build
 pub mod Planes
+pub mod Buffers
 pub mod Sizes
 pub mod Modes
 pub mod Refusal

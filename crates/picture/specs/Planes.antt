@@ -1,7 +1,7 @@
 -- A picture as four planes, and as bytes: r, g, b, a for each pixel, row by row from the top.
 use mathlib.Core.List.{List, _++_}
 use Prim.Native.Nat.{ℕ, _+_, _*_, _/_, _%_}
-use lib.ListN.{getD, drop, replicate}
+use lib.ListN.{length, getD, drop, replicate}
 use Rattle.picture.specs.Build.{build}
 
 -- one channel along a line: the value at each index
@@ -24,6 +24,10 @@ chan bytes w c x y = getD bytes (4 * (y * w + x) + c) 0
 unfoldable pub painted : ℕ → ℕ → (ℕ → Plane) → List ℕ
 painted w h F = build (bytesOf w h) (λ i. F (i % 4) (i / 4 % w) (i / 4 / w))
 
+-- a lent buffer whose first bytes are new, and of which the rest is unchanged
+unfoldable pub laid : List ℕ → List ℕ → List ℕ
+laid new old = new ++ drop (length new) old
+
 -- a work buffer after a success: its first n bytes are zero and the rest is unchanged
 unfoldable pub cleared : ℕ → List ℕ → List ℕ
-cleared n work = replicate n 0 ++ drop n work
+cleared n work = laid (replicate n 0) work

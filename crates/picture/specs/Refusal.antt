@@ -14,10 +14,14 @@ pub record Check : Type 0 where
 abbrev pub check : ℕ → Bool → Check
 check k b = record { number = k; refuses = b }
 
+-- the number of the first check that refuses; what the later ones answer where none does
+unfoldable pub firstElse : List Check → ℕ → ℕ
+firstElse [] later = later
+firstElse (k ∷ ks) later = cond (k .refuses) (k .number) (firstElse ks later)
+
 -- the number of the first check that refuses; 0 where none does
 unfoldable pub firstOf : List Check → ℕ
-firstOf [] = 0
-firstOf (k ∷ ks) = cond (k .refuses) (k .number) (firstOf ks)
+firstOf checks = firstElse checks 0
 
 -- a count that is 0 or above the most there may be
 unfoldable pub zeroOrAbove : ℕ → ℕ → Bool

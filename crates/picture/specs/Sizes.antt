@@ -1,6 +1,8 @@
 -- Sizes in full pixels and sizes in a level's pixels: separate kinds.
 use mathlib.Core.Path.{_≡_}
+use mathlib.Core.List.{List}
 use Prim.Native.Nat.{ℕ, zero, suc, _+_, _/_, _≤_}
+use lib.ListN.{length}
 use Rattle.picture.specs.Planes.{bytesOf}
 use Rattle.picture.specs.declared.FullSize.{FullSize}
 use Rattle.picture.specs.declared.LevelSize.{LevelSize}
@@ -37,13 +39,28 @@ levelZero s = levelSize (s .w) (s .h)
 abbrev pub halfLevel : LevelSize → LevelSize
 halfLevel s = levelSize (half (s .w)) (half (s .h))
 
--- how many bytes a level of this size has
+-- how many bytes a picture, or a level, of this size has
+abbrev pub fullBytes : FullSize → ℕ
+fullBytes s = bytesOf (s .w) (s .h)
+
 abbrev pub levelBytes : LevelSize → ℕ
 levelBytes s = bytesOf (s .w) (s .h)
 
--- a level with pixels, and sides that its arithmetic has room for
-pub record Sized (s : LevelSize) : Type 0 where
-  pub w-low : 1 ≤ s .w
-  pub w-high : s .w ≤ sideRoom
-  pub h-low : 1 ≤ s .h
-  pub h-high : s .h ≤ sideRoom
+-- sides with pixels that the arithmetic has room for
+pub record Sides (w h : ℕ) : Type 0 where
+  pub w-low : 1 ≤ w
+  pub w-high : w ≤ sideRoom
+  pub h-low : 1 ≤ h
+  pub h-high : h ≤ sideRoom
+
+-- the same of a size in full pixels, and of a level's
+abbrev pub FullSized : FullSize → Type 0
+FullSized s = Sides (s .w) (s .h)
+
+abbrev pub Sized : LevelSize → Type 0
+Sized s = Sides (s .w) (s .h)
+
+-- a whole picture of w by h pixels: its sides have room, and it has exactly 4wh bytes
+pub record Pictured (w h : ℕ) (bytes : List ℕ) : Type 0 where
+  pub sized : Sides w h
+  pub exact : length bytes ≡ bytesOf w h

@@ -1,12 +1,16 @@
 // A picture's sizes, pixels and edge rules, and the checks that several entries share.
 ghost use mathlib.Core.Path.{_≡_};
 ghost use mathlib.Core.Bool.{true, false, cond};
-ghost use Prim.Native.Nat.{ℕ, _≤_};
-ghost use lib.ListN.{length};
-ghost use Rattle.picture.specs.Planes.{cleared};
-ghost use Rattle.picture.specs.Sizes.{fullSize, levelZero, halfLevel, levelBytes, Sized};
+ghost use Prim.Native.Nat.{ℕ};
+ghost use Rattle.picture.specs.Sizes.{fullSize, levelZero, halfLevel, fullBytes, levelBytes, FullSized, Sized};
 ghost use Rattle.picture.specs.Modes.{modeOf};
-ghost use Rattle.picture.specs.Refusal.{zeroOrAbove, wrongSides, wrongLength, tooShort, wrongTaps, tooDeep, wrongEdge};
+ghost use Rattle.picture.specs.Refusal.{firstElse, zeroOrAbove, wrongSides, wrongLength, tooShort, wrongTaps, tooDeep, wrongEdge, pictureChecks};
+mod buffers;
+pub use buffers::clear;
+pub use buffers::copy_forward;
+pub use buffers::copy_back;
+pub use buffers::greatest;
+pub use buffers::least;
 
 // Refusal numbers; 0 is done.
 pub const WRONG_SIDES: u32 = 1;
@@ -89,6 +93,26 @@ impl FullSize {
             h: self.h,
         }
     }
+
+    pub fn width(self) -> usize
+        ensures { λ r. ⌜ r ≡ self .w ⌝ }
+    {
+        self.w
+    }
+
+    pub fn height(self) -> usize
+        ensures { λ r. ⌜ r ≡ self .h ⌝ }
+    {
+        self.h
+    }
+
+    // How many bytes a picture of this size has.
+    pub fn bytes(self) -> usize
+        requires { ⌜ FullSized self ⌝ }
+        ensures { λ r. ⌜ r ≡ fullBytes self ⌝ }
+    {
+        4 * (self.w * self.h)
+    }
 }
 
 impl LevelSize {
@@ -144,7 +168,7 @@ pub fn first(number: u32, refuses: bool, later: u32) -> u32
 }
 
 // A count that is 0 or above the most there may be.
-fn zero_or_above(most: usize, count: usize) -> bool
+pub fn zero_or_above(most: usize, count: usize) -> bool
     ensures { λ r. ⌜ r ≡ zeroOrAbove most count ⌝ }
 {
     if count == 0 {
@@ -173,6 +197,17 @@ pub fn wrong_length(len: usize, w: u32, h: u32) -> bool
     len / 4 != w as usize * h as usize
 }
 
+// Checks 1 and 2, which every entry on a picture begins with, in front of what the later ones answer.
+pub fn picture_refusal(len: usize, w: u32, h: u32, later: u32) -> u32
+    ensures { λ r. ⌜ r ≡ firstElse (pictureChecks len w h) later ⌝ }
+{
+    first(
+        WRONG_SIDES,
+        wrong_sides(w, h),
+        first(WRONG_LENGTH, wrong_length(len, w, h), later),
+    )
+}
+
 // Refusal 3's condition, of one work buffer.
 pub fn too_short(len: usize, w: u32, h: u32) -> bool
     ensures { λ r. ⌜ r ≡ tooShort len w h ⌝ }
@@ -199,16 +234,4 @@ pub fn wrong_edge(edge: u32) -> bool
     ensures { λ r. ⌜ r ≡ wrongEdge edge ⌝ }
 {
     3 < edge
-}
-
-// Sets the first n bytes of a work buffer to zero.
-pub fn clear(work: &mut [u8], n: usize)
-    requires { ⌜ n ≤ length (now work) ⌝ }
-    ensures { λ _. ⌜ now (work .exit) ≡ cleared n (now (work .entry)) ⌝ }
-{
-    let mut i = 0;
-    while i < n {
-        work[i] = 0;
-        i += 1;
-    }
 }

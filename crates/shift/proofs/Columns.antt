@@ -7,10 +7,11 @@ use native.Mathlib.Omega.{arith}
 use lib.ListN.{length}
 use Rattle.picture.specs.Planes.{Line}
 use Rattle.picture.proofs.Planes.{remainder}
-use Rattle.shift.specs.Bytes.{lineOf, blank, zeroed}
+use Rattle.picture.specs.Buffers.{lineOf}
+use Rattle.shift.specs.Bytes.{blank, zeroed}
 use Rattle.shift.proofs.Moved.{Where, before, inside, past, find}
 use Rattle.shift.proofs.Zeroed.{blank-before, blank-inside, blank-past, zeroed-is}
-use Rattle.shift.proofs.Walk.{upTo, upto-below, upto-from, doneBelow}
+use Rattle.picture.proofs.Walk.{upTo, upto-below, upto-from, doneBelow}
 
 -- row y of h, of w bytes each, ends where they all do, at the latest
 pub row-fits : (w h y : ℕ) → y < h → y * w + w ≤ h * w

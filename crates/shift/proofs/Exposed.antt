@@ -9,7 +9,8 @@ use Rattle.picture.proofs.Build.{build-ext}
 use Rattle.binary32.specs.declared.Offset.{Offset}
 use Rattle.shift.specs.Bytes.{columnsZeroed, insideKept}
 use Rattle.shift.proofs.Moved.{from-inside, moved-is}
-use Rattle.shift.proofs.Zeroed.{blank-before, blank-inside, blank-past, build-same}
+use Rattle.picture.proofs.Build.{build-same}
+use Rattle.shift.proofs.Zeroed.{blank-before, blank-inside, blank-past}
 
 module _ (d : Offset) (w : ℕ) (bytes : List ℕ) (l : d .plus + d .minus < w) where
   -- byte i stands in one of the columns

@@ -2,7 +2,6 @@
 pub mod Moved
 pub mod Integers
 pub mod Zeroed
-pub mod Walk
 pub mod Run
 pub mod Slid
 pub mod Columns

@@ -11,7 +11,8 @@ use Rattle.picture.proofs.Planes.{remainder, quotient, pixel-fits, painted-ext}
 use Rattle.binary32.specs.declared.Offset.{Offset}
 use Rattle.binary32.proofs.Offsets.{held}
 use Rattle.shift.specs.Shift.{moved, shifted, shiftedPicture}
-use Rattle.shift.specs.Bytes.{lineOf, planeShifted, OneWay}
+use Rattle.picture.specs.Buffers.{lineOf}
+use Rattle.shift.specs.Bytes.{planeShifted, OneWay}
 use Rattle.shift.proofs.Moved.{moved-as}
 use Rattle.shift.proofs.Rounded.{held-picture}
 

@@ -14,9 +14,11 @@ use Rattle.picture.proofs.Tests.{neither}
 use Rattle.picture.proofs.Planes.{pixel-fits}
 use Rattle.binary32.specs.declared.Offset.{Offset}
 use Rattle.shift.specs.Shift.{moved, shifted}
-use Rattle.shift.specs.Bytes.{lineOf, slid, zeroed, insideKept, planeShifted, OneWay, movedOut}
+use Rattle.picture.specs.Buffers.{lineOf}
+use Rattle.shift.specs.Bytes.{slid, zeroed, insideKept, planeShifted, OneWay, movedOut}
 use Rattle.shift.proofs.Moved.{from-before, from-inside, from-past, moved-is, moved-as, moved-zeros, moved-out}
-use Rattle.shift.proofs.Zeroed.{blank-inside, build-same}
+use Rattle.picture.proofs.Build.{build-same}
+use Rattle.shift.proofs.Zeroed.{blank-inside}
 
 -- dx columns and dy rows of w bytes, as places along all rows
 abbrev pub flat : ℕ → Offset → Offset → Offset

@@ -12,11 +12,13 @@ use borrow.Author.Tests.{ltb-true, ltb-false, eqb-true, eqb-false}
 use Rattle.picture.proofs.Planes.{pixel-fits}
 use Rattle.binary32.specs.declared.Offset.{Offset}
 use Rattle.shift.specs.Shift.{moved, shifted}
-use Rattle.shift.specs.Bytes.{lineOf, blank, zeroed, runMoved, turnRow, planeShifted, OneWay}
+use Rattle.picture.specs.Planes.{Line}
+use Rattle.picture.specs.Buffers.{lineOf, lineFrom, placedAt}
+use Rattle.picture.proofs.Placed.{placed-before, placed-inside, placed-past, length-placed, placed-at}
+use Rattle.shift.specs.Bytes.{blank, zeroed, runMoved, turnRow, planeShifted, OneWay}
 use Rattle.shift.proofs.Moved.{Where, before, inside, past, find, from-before, from-inside, from-past, moved-ext, moved-zeros}
 use Rattle.shift.proofs.Zeroed.{blank-before, blank-inside, blank-past, ends-zeroed}
 use Rattle.shift.proofs.Columns.{row-fits}
-use Rattle.shift.proofs.Run.{lineFrom, rule, rule-before, rule-inside, rule-past, length-run, run-at}
 
 -- how many of h rows stay inside
 abbrev pub staying : Offset → ℕ → ℕ
@@ -69,15 +71,18 @@ none-turned dx dy w h old = record { same = refl; done = λ r x _ _ l. absurd (o
 
 -- row y is made of row z
 module _ (dx : Offset) (w h z y : ℕ) (bytes : List ℕ) (exact : length bytes ≡ h * w) (x : ℕ) (l : x < w) where
+  abbrev made : Line
+  made = moved dx w (lineFrom (z * w) bytes)
+
   row-made : y < h → lineFrom (y * w) (runMoved dx w (z * w) (y * w) bytes) x ≡ moved dx w (lineFrom (z * w) bytes) x
-  row-made m = run-at dx w (z * w) (y * w) bytes (y * w + x) (omega (arith, pixel-fits w h x y l m)) ∙ rule-inside dx w (z * w) (y * w) bytes (y * w + x) x refl l
+  row-made m = placed-at w (y * w) made bytes (y * w + x) (omega (arith, pixel-fits w h x y l m)) ∙ placed-inside w (y * w) made bytes (y * w + x) x refl l
 
   row-kept : (q : ℕ) → q < h → q ≢ y → lineFrom (q * w) (runMoved dx w (z * w) (y * w) bytes) x ≡ lineFrom (q * w) bytes x
-  row-kept q m ne = run-at dx w (z * w) (y * w) bytes (q * w + x) (omega (arith, pixel-fits w h x q l m)) ∙ by-test (ltb q y) refl
+  row-kept q m ne = placed-at w (y * w) made bytes (q * w + x) (omega (arith, pixel-fits w h x q l m)) ∙ by-test (ltb q y) refl
     where
-      by-test : (t : Bool) → ltb q y ≡ t → rule dx w (z * w) (y * w) bytes (q * w + x) ≡ lineFrom (q * w) bytes x
-      by-test true t = rule-before dx w (z * w) (y * w) bytes (q * w + x) (omega (arith, row-fits w y q (ltb-true q y t)))
-      by-test false t = let k = ltb-false q y t in rule-past dx w (z * w) (y * w) bytes (q * w + x) (omega (arith, row-fits w q y (omega arith)))
+      by-test : (t : Bool) → ltb q y ≡ t → placedAt w (y * w) made bytes (q * w + x) ≡ lineFrom (q * w) bytes x
+      by-test true t = placed-before w (y * w) made bytes (q * w + x) (omega (arith, row-fits w y q (ltb-true q y t)))
+      by-test false t = let k = ltb-false q y t in placed-past w (y * w) made bytes (q * w + x) (omega (arith, row-fits w q y (omega arith)))
 
 module _ (dx dy : Offset) (w h : ℕ) (old : List ℕ) (exact : length old ≡ h * w) (one : OneWay dy) (wide : dx .plus + dx .minus < w) where
   abbrev n : ℕ
@@ -91,7 +96,7 @@ module _ (dx dy : Offset) (w h : ℕ) (old : List ℕ) (exact : length old ≡ h
         let back : turnRow dy n r ≡ k = turn-twice dy n k l in
         let e : length bytes ≡ h * w = t .same ∙ exact in
         record {
-          same = length-run dx w ((r + dy .minus) * w) ((r + dy .plus) * w) bytes ∙ t .same;
+          same = length-placed w ((r + dy .plus) * w) _ bytes ∙ t .same;
           done = λ q x lq lx m. by-test r lr back e q x lq lx m (eqb q r) refl;
           left = λ y x ly lx f.
               row-kept dx w h (r + dy .minus) (r + dy .plus) bytes e x lx y ly (λ g. let u = f r lr g in let z : ⊥ = omega arith in z)

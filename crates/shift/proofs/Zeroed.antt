@@ -9,7 +9,8 @@ use borrow.Author.Tests.{lt-ltb, le-ltb}
 use borrow.Rule.Slice.PartMut.{midOf, putMid}
 use Rattle.picture.specs.Build.{build}
 use Rattle.picture.specs.Planes.{Line, cleared}
-use Rattle.picture.proofs.Build.{length-build, getD-build, build-ext}
+use Rattle.picture.proofs.Build.{length-build, getD-build, build-ext, build-same}
+use Rattle.picture.proofs.Planes.{cleared-is}
 use Rattle.shift.specs.Bytes.{blank, zeroed}
 use Rattle.shift.proofs.Moved.{Where, before, inside, past, find}
 
@@ -22,10 +23,6 @@ module _ (a n x v : ℕ) where
 
   pub blank-past : a + n ≤ x → blank a n x v ≡ v
   blank-past l = rw (le-ltb x a (omega arith), le-ltb x (a + n) l)
-
--- two rules that agree
-pub build-same : (n : ℕ) (f g : Line) → ((i : ℕ) → i < n → f i ≡ g i) → build n f ≡ build n g
-build-same n f g h = build-ext n g (build n f) (length-build n f) (λ i l. getD-build n f i l ∙ h i l)
 
 module _ (a n : ℕ) (bytes : List ℕ) where
   length-zeroed : length (zeroed a n bytes) ≡ length bytes
@@ -89,8 +86,8 @@ module _ (bytes : List ℕ) (a n : ℕ) (l : a + n ≤ length bytes) where
 
   -- the part is the whole rest
   pub cleared-run : putMid a (length bytes - a) bytes (cleared n (midOf a (length bytes - a) bytes)) ≡ zeroed a n bytes
-  unfolding cleared zeroed
+  unfolding zeroed
   cleared-run =
       let rest : length (drop a bytes) ≡ length bytes - a = length-drop a bytes in
-      rw (take-all (length bytes - a) (drop a bytes) (omega arith), drop-of-length-le (drop a bytes) {i = length bytes - a} (omega arith), append-nil)
+      rw (take-all (length bytes - a) (drop a bytes) (omega arith), cleared-is n (drop a bytes), drop-of-length-le (drop a bytes) {i = length bytes - a} (omega arith), append-nil)
       (build-ext _ _ cut (simp (length-append, length-take-le a bytes (omega arith), length-replicate, length-drop) (omega arith)) (λ j h. cut-at j (find n j a)))

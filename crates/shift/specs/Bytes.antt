@@ -1,23 +1,19 @@
 -- What the steps of a shift in place make of a list of bytes.
 use mathlib.Core.Path.{_≡_}
-use mathlib.Core.Bool.{Bool, true, false, cond}
+use mathlib.Core.Bool.{Bool, cond}
 use mathlib.Core.List.{List}
 use Prim.Native.Nat.{ℕ, _+_, _-_, _*_, _/_, _%_, min}
 use lib.Dec.{ltb, leb}
-use lib.ListN.{length, getD}
+use lib.ListN.{length}
 use Rattle.picture.specs.Build.{build}
-use Rattle.picture.specs.Planes.{Line}
-use Rattle.binary32.specs.Round.{steps}
+use Rattle.picture.specs.Buffers.{lineOf, lineFrom, placed}
 use Rattle.binary32.specs.declared.Offset.{Offset}
+use Rattle.shift.specs.declared.ByteOffset.{ByteOffset}
 use Rattle.shift.specs.Shift.{moved, shifted}
 
--- a list of bytes as a line
-abbrev pub lineOf : List ℕ → Line
-lineOf bytes i = getD bytes i 0
-
--- no move
-abbrev pub still : Offset
-still = steps false 0
+-- a move along bytes, as one along the elements of a line
+abbrev pub along : ByteOffset → Offset
+along d = record { plus = d .plus; minus = d .minus }
 
 -- all bytes moved by d, as one line
 unfoldable pub slid : Offset → List ℕ → List ℕ
@@ -32,9 +28,8 @@ unfoldable pub zeroed : ℕ → ℕ → List ℕ → List ℕ
 zeroed a n bytes = build (length bytes) (λ i. blank a n i (lineOf bytes i))
 
 -- the w bytes from b on are those from a on moved by d, and the rest is as it was
-unfoldable pub runMoved : Offset → ℕ → ℕ → ℕ → List ℕ → List ℕ
-runMoved d w a b bytes =
-    build (length bytes) (λ i. cond (ltb i b) (lineOf bytes i) (cond (ltb i (b + w)) (moved d w (λ x. lineOf bytes (a + x)) (i - b)) (lineOf bytes i)))
+abbrev pub runMoved : Offset → ℕ → ℕ → ℕ → List ℕ → List ℕ
+runMoved d w a b bytes = placed w b (moved d w (lineFrom a bytes)) bytes
 
 -- which of n rows that move by dy is moved in turn k: the last first where they move down
 abbrev pub turnRow : Offset → ℕ → ℕ → ℕ

@@ -5,7 +5,7 @@ use mathlib.Core.List.{List, [], _∷_, _++_}
 use Prim.Native.Nat.{ℕ}
 use lib.ListN.{length}
 use lib.Ieee.{Float}
-use Rattle.picture.specs.Sizes.{levelZero, levelBytes, Sized}
+use Rattle.picture.specs.Sizes.{Pictured}
 use Rattle.picture.specs.declared.FullSize.{FullSize}
 use Rattle.picture.specs.Refusal.{Check, check, firstOf, pictureChecks}
 use Rattle.picture.specs.Answer.{Answer, settled}
@@ -17,10 +17,9 @@ use Rattle.shift.specs.Shift.{shiftedPicture}
 unfoldable pub wrongOffsets : Float → Float → Bool
 wrongOffsets dx dy = not (finite dx) || not (finite dy)
 
--- what the work needs: a size with room, a picture of exactly its bytes, and finite offsets
-pub record Ready (size : FullSize) (picture : ℕ) (dx dy : Float) : Type 0 where
-  pub sized : Sized (levelZero size)
-  pub exact : picture ≡ levelBytes (levelZero size)
+-- what the work needs: a whole picture, and finite offsets
+pub record ShiftReady (size : FullSize) (picture : List ℕ) (dx dy : Float) : Type 0 where
+  pub pictured : Pictured (size .w) (size .h) picture
   pub offsets : wrongOffsets dx dy ≡ false
 
 -- Shift: 1, 2, 7; of the picture's length
@@ -28,6 +27,6 @@ abbrev pub shiftChecks : ℕ → ℕ → ℕ → Float → Float → List Check
 shiftChecks picture w h dx dy = pictureChecks picture w h ++ (check 7 (wrongOffsets dx dy) ∷ [])
 
 -- the first refusal; or the picture moved by the offsets, each rounded to the nearest whole number, halves away from zero
-unfoldable pub outcome : List ℕ → ℕ → ℕ → Float → Float → Answer (List ℕ)
-outcome p w h dx dy =
+unfoldable pub shiftOutcome : List ℕ → ℕ → ℕ → Float → Float → Answer (List ℕ)
+shiftOutcome p w h dx dy =
     settled (firstOf (shiftChecks (length p) w h dx dy)) p (shiftedPicture (wholeOffset dx) (wholeOffset dy) w h p)

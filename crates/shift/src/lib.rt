@@ -5,12 +5,19 @@ ghost use Prim.Native.Nat.{_+_, _*_, _≤_, _<_};
 ghost use lib.ListN.{length};
 ghost use Rattle.picture.specs.Refusal.{firstOf};
 ghost use Rattle.picture.specs.Answer.{answered};
+ghost use Rattle.picture.specs.Buffers.{copied};
 ghost use Rattle.binary32.specs.Round.{wholeOffset};
 ghost use Rattle.shift.specs.Shift.{shiftedPicture};
-ghost use Rattle.shift.specs.Bytes.{still, slid, zeroed, runMoved, turnRow, columnsZeroed, insideKept, planeShifted, OneWay, movedOut};
-ghost use Rattle.shift.specs.Outcome.{wrongOffsets, Ready, shiftChecks, outcome};
+ghost use Rattle.shift.specs.Bytes.{along, slid, zeroed, runMoved, turnRow, columnsZeroed, insideKept, planeShifted, OneWay, movedOut};
+ghost use Rattle.shift.specs.Outcome.{wrongOffsets, ShiftReady, shiftChecks, shiftOutcome};
 use binary32::Offset;
 use picture::FullSize;
+
+// A move along bytes: this many forward, or this many back. An `Offset` counts whole pixels, or rows.
+pub struct ByteOffset {
+    pub plus: usize,
+    pub minus: usize,
+}
 
 // Sets the n bytes from `start` on to zero.
 fn clear_run(bytes: &mut [u8], start: usize, n: usize)
@@ -20,48 +27,24 @@ fn clear_run(bytes: &mut [u8], start: usize, n: usize)
     picture::clear(&mut bytes[start..], n);
 }
 
-// Copies the n bytes from `from` on to a place not before, the last first, so that none is read after it is overwritten.
-fn copy_forward(bytes: &mut [u8], from: usize, to: usize, n: usize)
-    requires { ⌜ (from ≤ to) × (to + n ≤ length (now bytes)) ⌝ }
-    ensures { λ _. ⌜ now (bytes .exit) ≡ runMoved still n from to (now (bytes .entry)) ⌝ }
-{
-    let mut i = n;
-    while 0 < i {
-        i -= 1;
-        bytes[to + i] = bytes[from + i];
-    }
-}
-
-// Copies the n bytes from `from` on to a place not after, the first first.
-fn copy_back(bytes: &mut [u8], from: usize, to: usize, n: usize)
-    requires { ⌜ (to ≤ from) × (from + n ≤ length (now bytes)) ⌝ }
-    ensures { λ _. ⌜ now (bytes .exit) ≡ runMoved still n from to (now (bytes .entry)) ⌝ }
-{
-    let mut i = 0;
-    while i < n {
-        bytes[to + i] = bytes[from + i];
-        i += 1;
-    }
-}
-
 // Copies the n bytes from `from` on to the place `to`.
 fn copy_run(bytes: &mut [u8], from: usize, to: usize, n: usize)
     requires { ⌜ (from + n ≤ length (now bytes)) × (to + n ≤ length (now bytes)) ⌝ }
-    ensures { λ _. ⌜ now (bytes .exit) ≡ runMoved still n from to (now (bytes .entry)) ⌝ }
+    ensures { λ _. ⌜ now (bytes .exit) ≡ copied n from to (now (bytes .entry)) ⌝ }
 {
     if from < to {
-        copy_forward(bytes, from, to, n);
+        picture::copy_forward(bytes, from, to, n);
         return;
     }
     if to < from {
-        copy_back(bytes, from, to, n);
+        picture::copy_back(bytes, from, to, n);
     }
 }
 
 // Makes of the w bytes from `to` on those from `from` on, moved by d: what stays inside is copied, the rest is cleared.
-fn move_run(bytes: &mut [u8], from: usize, to: usize, w: usize, d: Offset)
-    requires { ⌜ (from + w ≤ length (now bytes)) × (to + w ≤ length (now bytes)) × OneWay d × (d .plus + d .minus ≤ w) ⌝ }
-    ensures { λ _. ⌜ now (bytes .exit) ≡ runMoved d w from to (now (bytes .entry)) ⌝ }
+fn move_run(bytes: &mut [u8], from: usize, to: usize, w: usize, d: ByteOffset)
+    requires { ⌜ (from + w ≤ length (now bytes)) × (to + w ≤ length (now bytes)) × OneWay (along d) × (d .plus + d .minus ≤ w) ⌝ }
+    ensures { λ _. ⌜ now (bytes .exit) ≡ runMoved (along d) w from to (now (bytes .entry)) ⌝ }
 {
     let plus = d.plus;
     let minus = d.minus;
@@ -72,25 +55,25 @@ fn move_run(bytes: &mut [u8], from: usize, to: usize, w: usize, d: Offset)
 }
 
 // The same move with one of its numbers 0.
-fn net(d: Offset) -> Offset
-    ensures { λ r. ⌜ OneWay r × (r .plus + d .minus ≡ d .plus + r .minus) ⌝ }
+fn net(d: ByteOffset) -> ByteOffset
+    ensures { λ r. ⌜ OneWay (along r) × (r .plus + d .minus ≡ d .plus + r .minus) ⌝ }
 {
     if d.minus < d.plus {
-        return Offset {
+        return ByteOffset {
             plus: d.plus - d.minus,
             minus: 0,
         };
     }
-    Offset {
+    ByteOffset {
         plus: 0,
         minus: d.minus - d.plus,
     }
 }
 
 // Moves every byte by d places.
-fn slide(bytes: &mut [u8], d: Offset)
+fn slide(bytes: &mut [u8], d: ByteOffset)
     requires { ⌜ (d .plus ≤ length (now bytes)) × (d .minus ≤ length (now bytes)) ⌝ }
-    ensures { λ _. ⌜ now (bytes .exit) ≡ slid d (now (bytes .entry)) ⌝ }
+    ensures { λ _. ⌜ now (bytes .exit) ≡ slid (along d) (now (bytes .entry)) ⌝ }
 {
     let n = bytes.len();
     move_run(bytes, 0, 0, n, net(d));
@@ -109,9 +92,9 @@ fn clear_columns(bytes: &mut [u8], w: usize, h: usize, start: usize, n: usize)
 }
 
 // Sets each byte to zero that came from another row: the first columns, or the last.
-fn clear_exposed(bytes: &mut [u8], w: usize, h: usize, dx: Offset)
-    requires { ⌜ (length (now bytes) ≡ h * w) × OneWay dx × (dx .plus + dx .minus < w) ⌝ }
-    ensures { λ _. ⌜ now (bytes .exit) ≡ insideKept dx w (now (bytes .entry)) ⌝ }
+fn clear_exposed(bytes: &mut [u8], w: usize, h: usize, dx: ByteOffset)
+    requires { ⌜ (length (now bytes) ≡ h * w) × OneWay (along dx) × (dx .plus + dx .minus < w) ⌝ }
+    ensures { λ _. ⌜ now (bytes .exit) ≡ insideKept (along dx) w (now (bytes .entry)) ⌝ }
 {
     if 0 < dx.plus {
         clear_columns(bytes, w, h, 0, dx.plus);
@@ -123,9 +106,9 @@ fn clear_exposed(bytes: &mut [u8], w: usize, h: usize, dx: Offset)
 }
 
 // Whether nothing of a plane of w by h lies inside once it is moved by dx and dy.
-fn moved_out(w: usize, h: usize, dx: Offset, dy: Offset) -> bool
-    requires { ⌜ OneWay dx × OneWay dy ⌝ }
-    ensures { λ r. ⌜ r ≡ movedOut w dx || movedOut h dy ⌝ }
+fn moved_out(w: usize, h: usize, dx: ByteOffset, dy: Offset) -> bool
+    requires { ⌜ OneWay (along dx) × OneWay dy ⌝ }
+    ensures { λ r. ⌜ r ≡ movedOut w (along dx) || movedOut h dy ⌝ }
 {
     if w <= dx.plus + dx.minus {
         return true;
@@ -135,13 +118,13 @@ fn moved_out(w: usize, h: usize, dx: Offset, dy: Offset) -> bool
 
 // Moves a plane of h rows of w bytes by dx and dy, all rows as one line, by dy rows and dx bytes at once;
 // what that brought in from another row is then cleared.
-fn move_flat(bytes: &mut [u8], w: usize, h: usize, dx: Offset, dy: Offset)
-    requires { ⌜ (length (now bytes) ≡ h * w) × OneWay dx × OneWay dy × (dx .plus + dx .minus < w) × (dy .plus + dy .minus < h) ⌝ }
-    ensures { λ _. ⌜ now (bytes .exit) ≡ planeShifted dx dy w h (now (bytes .entry)) ⌝ }
+fn move_flat(bytes: &mut [u8], w: usize, h: usize, dx: ByteOffset, dy: Offset)
+    requires { ⌜ (length (now bytes) ≡ h * w) × OneWay (along dx) × OneWay dy × (dx .plus + dx .minus < w) × (dy .plus + dy .minus < h) ⌝ }
+    ensures { λ _. ⌜ now (bytes .exit) ≡ planeShifted (along dx) dy w h (now (bytes .entry)) ⌝ }
 {
     slide(
         bytes,
-        Offset {
+        ByteOffset {
             plus: dy.plus * w + dx.plus,
             minus: dy.minus * w + dx.minus,
         },
@@ -161,9 +144,9 @@ fn turn_row(dy: Offset, n: usize, k: usize) -> usize
 }
 
 // Moves a plane of h rows of w bytes by dx and dy, row by row: only what stays inside is moved.
-fn move_rows(bytes: &mut [u8], w: usize, h: usize, dx: Offset, dy: Offset)
-    requires { ⌜ (length (now bytes) ≡ h * w) × OneWay dx × OneWay dy × (dx .plus + dx .minus < w) × (dy .plus + dy .minus < h) ⌝ }
-    ensures { λ _. ⌜ now (bytes .exit) ≡ planeShifted dx dy w h (now (bytes .entry)) ⌝ }
+fn move_rows(bytes: &mut [u8], w: usize, h: usize, dx: ByteOffset, dy: Offset)
+    requires { ⌜ (length (now bytes) ≡ h * w) × OneWay (along dx) × OneWay dy × (dx .plus + dx .minus < w) × (dy .plus + dy .minus < h) ⌝ }
+    ensures { λ _. ⌜ now (bytes .exit) ≡ planeShifted (along dx) dy w h (now (bytes .entry)) ⌝ }
 {
     let down = dy.plus;
     let up = dy.minus;
@@ -179,10 +162,11 @@ fn move_rows(bytes: &mut [u8], w: usize, h: usize, dx: Offset, dy: Offset)
 }
 
 // Moves a plane of h rows of w bytes by dx and dy: row by row where much of each row leaves it, else as one line, which
-// is the quicker for narrow planes and for small moves.
-fn move_plane(bytes: &mut [u8], w: usize, h: usize, dx: Offset, dy: Offset)
-    requires { ⌜ (length (now bytes) ≡ h * w) × OneWay dx × OneWay dy ⌝ }
-    ensures { λ _. ⌜ now (bytes .exit) ≡ planeShifted dx dy w h (now (bytes .entry)) ⌝ }
+// is the quicker for narrow planes and for small moves. Much is more than a quarter of the row and 32 bytes: at less, what
+// the one line moves and then clears costs less than a call for each row.
+pub fn move_plane(bytes: &mut [u8], w: usize, h: usize, dx: ByteOffset, dy: Offset)
+    requires { ⌜ (length (now bytes) ≡ h * w) × OneWay (along dx) × OneWay dy ⌝ }
+    ensures { λ _. ⌜ now (bytes .exit) ≡ planeShifted (along dx) dy w h (now (bytes .entry)) ⌝ }
 {
     if moved_out(w, h, dx, dy) {
         let n = bytes.len();
@@ -198,19 +182,18 @@ fn move_plane(bytes: &mut [u8], w: usize, h: usize, dx: Offset, dy: Offset)
 
 // Moves a picture by dx and dy, each rounded to whole pixels.
 pub fn offset_pixels(picture: &mut [u8], size: FullSize, dx: f32, dy: f32)
-    requires { ⌜ Ready size (length (now picture)) dx dy ⌝ }
+    requires { ⌜ ShiftReady size (now picture) dx dy ⌝ }
     ensures { λ _. ⌜ now (picture .exit) ≡ shiftedPicture (wholeOffset dx) (wholeOffset dy) (size .w) (size .h) (now (picture .entry)) ⌝ }
 {
-    let level = size.level_zero();
-    let w = level.width();
-    let h = level.height();
+    let w = size.width();
+    let h = size.height();
     let across = binary32::round_offset(dx, w);
     let down = binary32::round_offset(dy, h);
     move_plane(
         picture,
         4 * w,
         h,
-        Offset {
+        ByteOffset {
             plus: 4 * across.plus,
             minus: 4 * across.minus,
         },
@@ -232,18 +215,17 @@ pub fn wrong_offsets(dx: f32, dy: f32) -> bool
 pub fn shift_refusal(picture: usize, w: u32, h: u32, dx: f32, dy: f32) -> u32
     ensures { λ r. ⌜ r ≡ firstOf (shiftChecks picture w h dx dy) ⌝ }
 {
-    let seven = picture::first(picture::NOT_FINITE, wrong_offsets(dx, dy), 0);
-    let two = picture::first(
-        picture::WRONG_LENGTH,
-        picture::wrong_length(picture, w, h),
-        seven,
-    );
-    picture::first(picture::WRONG_SIDES, picture::wrong_sides(w, h), two)
+    picture::picture_refusal(
+        picture,
+        w,
+        h,
+        picture::first(picture::NOT_FINITE, wrong_offsets(dx, dy), 0),
+    )
 }
 
 // Moves a picture of w by h pixels by dx and dy, rounded to whole pixels. Answers the refusal number.
 pub fn shift(picture: &mut [u8], w: u32, h: u32, dx: f32, dy: f32) -> u32
-    ensures { λ r. ⌜ answered r (now (picture .exit)) ≡ outcome (now (picture .entry)) w h dx dy ⌝ }
+    ensures { λ r. ⌜ answered r (now (picture .exit)) ≡ shiftOutcome (now (picture .entry)) w h dx dy ⌝ }
 {
     let refusal = shift_refusal(picture.len(), w, h, dx, dy);
     if refusal != 0 {

@@ -26,7 +26,7 @@ returns c =
     let made = look .before .before .before .before in
     let known = made .before .before in
     let s = known .before .args in
-    look .look-up .ensures ∙ looked-is (s .colour) (s .s .w) (s .s .h) (s .copy .now) _ (λ j. known .slice-known .given j .fits) (made .shadow-table .ensures)
+    look .look-up .ensures ∙ looked-is (s .colour) (s .size .w) (s .size .h) (s .copy .now) _ (λ j. known .slice-known .given j .fits) (made .shadow-table .ensures)
 
 pub colour-copy-spec : {M : Type 1} → statement M
 colour-copy-spec =

@@ -6,7 +6,7 @@ use borrow.Author.Needs.{needs}
 use lib.ListN.{length}
 use Rattle.composite.specs.Channels.{over}
 use Rattle.composite.specs.Shadow.{overPixel, composed}
-use Rattle.composite.proofs.Painting.{at, chan-here, Painting, begins, next, turn, ends}
+use Rattle.pixels.proofs.Painting.{at, chan-here, Painting, begins, next, turn, ends}
 use Rattle.composite.proofs.compose.Statement.{statement}
 use Rattle.composite.proofs.compose.Tie as tie
 
@@ -62,8 +62,8 @@ returns c =
     let s = c .before .before .before .before .before in
     let p = s .args .picture .now in
     let q = s .args .shadow .now in
-    let w = s .args .s .w in
-    ends (c .before .loop .inv) w (s .args .s .h) _ (omega arith) (s .pre .1 .0)
+    let w = s .args .size .w in
+    ends (c .before .loop .inv) w (s .args .size .h) _ (omega arith) (s .pre .0 .exact)
     (λ i k l. sym (rw (chan-here p w k i, chan-here q w k i, chan-here p w 3 i)))
 
 pub compose-spec : {M : Type 1} → statement M

@@ -5,9 +5,9 @@ use native.Mathlib.Omega.{arith}
 use borrow.Author.Needs.{needs}
 use lib.ListN.{length}
 use Rattle.picture.specs.declared.Pixel.{Pixel}
-use Rattle.composite.specs.Pixels.{pixelAt}
+use Rattle.pixels.specs.Pixels.{pixelAt}
 use Rattle.composite.specs.Shadow.{looked}
-use Rattle.composite.proofs.Painting.{at, chan-here, chan-first, Painting, begins, next, turn, ends}
+use Rattle.pixels.proofs.Painting.{at, chan-here, chan-first, Painting, begins, next, turn, ends}
 use Rattle.composite.proofs.look_up.Statement.{statement}
 use Rattle.composite.proofs.look_up.Tie as tie
 
@@ -60,8 +60,8 @@ returns : tie.Need-returns Inv-loop μ-loop
 unfolding looked
 returns c =
     let s = c .before .before .before .before .before in
-    ends (c .before .loop .inv) (s .args .s .w) (s .args .s .h) _ (omega arith) (s .pre .1 .0)
-    (λ i k l. sym (rw (chan-here (s .args .copy .now) (s .args .s .w) 3 i, chan-first (s .args .table .now) 256 k (at (s .args .copy .now) i 3))))
+    ends (c .before .loop .inv) (s .args .size .w) (s .args .size .h) _ (omega arith) (s .pre .0 .exact)
+    (λ i k l. sym (rw (chan-here (s .args .copy .now) (s .args .size .w) 3 i, chan-first (s .args .table .now) 256 k (at (s .args .copy .now) i 3))))
 
 pub look-up-spec : {M : Type 1} → statement M
 look-up-spec =

@@ -4,7 +4,7 @@ use Prim.Native.Nat.{ℕ, _-_, _%_}
 use native.Mathlib.Omega.{arith}
 use borrow.Author.Needs.{needs}
 use Rattle.composite.specs.Shadow.{shadowOf}
-use Rattle.composite.proofs.Painting.{Painting, begins, turn, ends}
+use Rattle.pixels.proofs.Painting.{Painting, begins, turn, ends}
 use Rattle.composite.proofs.shadow_table.Statement.{statement}
 use Rattle.composite.proofs.shadow_table.Tie as tie
 

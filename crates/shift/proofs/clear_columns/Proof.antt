@@ -5,7 +5,7 @@ use native.Mathlib.Nat.{add-mul, one-mul, zero-mul}
 use native.Mathlib.Omega.{arith}
 use lib.ListN.{length}
 use Rattle.shift.specs.Bytes.{columnsZeroed}
-use Rattle.shift.proofs.Walk.{doneBelow, below-none, below-done}
+use Rattle.picture.proofs.Walk.{doneBelow, below-none, below-done}
 use Rattle.shift.proofs.Columns.{row-fits, blankColumns, row-turn}
 use Rattle.shift.proofs.clear_columns.Statement.{statement}
 use Rattle.shift.proofs.clear_columns.Tie as tie

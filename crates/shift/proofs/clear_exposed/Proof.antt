@@ -1,5 +1,6 @@
 -- The columns that are set to zero are those where x - dx does not lie inside.
 use native.Mathlib.Omega.{arith}
+use Rattle.shift.specs.Bytes.{along}
 use Rattle.shift.proofs.Exposed.{first-columns, last-columns, no-columns}
 use borrow.Author.Needs.{needs}
 use Rattle.shift.proofs.clear_exposed.Statement.{statement}
@@ -14,7 +15,7 @@ same-length c = search needs
 returns : tie.Need-returns
 returns c =
     let a = c .before .before .before .before .before .before .before .args in
-    rw (c .before .before .clear-columns .ensures) (first-columns (a .dx) (a .w) (a .bytes .now) (omega arith) (omega arith))
+    rw (c .before .before .clear-columns .ensures) (first-columns (along (a .dx)) (a .w) (a .bytes .now) (omega arith) (omega arith))
 
 sub-clear-columns : tie.Need-sub-clear-columns
 sub-clear-columns c = search needs
@@ -28,10 +29,10 @@ same-length-2 c = search needs
 returns-2 : tie.Need-returns-2
 returns-2 c =
     let a = c .before .before .before .before .before .before .before .before .before .before .args in
-    rw (c .before .before .clear-columns2 .ensures) (last-columns (a .dx) (a .w) (a .bytes .now) (omega arith) (omega arith))
+    rw (c .before .before .clear-columns2 .ensures) (last-columns (along (a .dx)) (a .w) (a .bytes .now) (omega arith) (omega arith))
 
 returns-3 : tie.Need-returns-3
-returns-3 c = let a = c .before .before .before .before .before .args in no-columns (a .dx) (a .w) (a .bytes .now) (omega arith) (omega arith) (omega arith)
+returns-3 c = let a = c .before .before .before .before .before .args in no-columns (along (a .dx)) (a .w) (a .bytes .now) (omega arith) (omega arith) (omega arith)
 
 pub clear-exposed-spec : {M : Type 1} → statement M
 clear-exposed-spec =

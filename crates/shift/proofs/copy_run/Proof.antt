@@ -1,6 +1,6 @@
 -- Each way copies; onto itself there is nothing to do.
 use native.Mathlib.Omega.{arith}
-use Rattle.shift.proofs.Run.{copied-still}
+use Rattle.picture.proofs.Placed.{copied-still}
 use borrow.Author.Needs.{needs}
 use Rattle.shift.proofs.copy_run.Statement.{statement}
 use Rattle.shift.proofs.copy_run.Tie as tie

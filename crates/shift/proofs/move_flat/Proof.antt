@@ -2,15 +2,15 @@
 use mathlib.Core.Path.{_∙_, ap}
 use Prim.Native.Nat.{_*_, _<_}
 use native.Mathlib.Omega.{arith}
-use Rattle.shift.specs.Bytes.{insideKept}
+use Rattle.shift.specs.Bytes.{along, insideKept}
 use Rattle.shift.proofs.Plane.{flat, flat-fits, slid-kept}
 use borrow.Author.Needs.{needs}
 use Rattle.shift.proofs.move_flat.Statement.{statement}
 use Rattle.shift.proofs.move_flat.Tie as tie
 
 -- no place along all rows is too far
-room : (c : tie.After-slide-arg) → let a = c .before .before .args in (flat (a .w) (a .dx) (a .dy) .plus < a .h * a .w) × (flat (a .w) (a .dx) (a .dy) .minus < a .h * a .w)
-room c = let a = c .before .before .args in flat-fits (a .dx) (a .dy) (a .w) (a .h) (omega arith) (omega arith)
+room : (c : tie.After-slide-arg) → let a = c .before .before .args in (flat (a .w) (along (a .dx)) (a .dy) .plus < a .h * a .w) × (flat (a .w) (along (a .dx)) (a .dy) .minus < a .h * a .w)
+room c = let a = c .before .before .args in flat-fits (along (a .dx)) (a .dy) (a .w) (a .h) (omega arith) (omega arith)
 
 mul-t9 : tie.Need-mul-t9
 mul-t9 c = omega (arith, room (c .before))
@@ -39,8 +39,8 @@ returns c =
     let p = s .before .before .before .before .before .before .before in
     let a = p .args in
     c .before .before .clear-exposed .ensures
-    ∙ ap (insideKept (a .dx) (a .w)) (s .slide .ensures)
-    ∙ slid-kept (a .dx) (a .dy) (a .w) (a .h) (a .bytes .now) (p .pre .0)
+    ∙ ap (insideKept (along (a .dx)) (a .w)) (s .slide .ensures)
+    ∙ slid-kept (along (a .dx)) (a .dy) (a .w) (a .h) (a .bytes .now) (p .pre .0)
 
 pub move-flat-spec : {M : Type 1} → statement M
 move-flat-spec =

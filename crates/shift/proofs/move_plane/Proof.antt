@@ -1,6 +1,7 @@
 -- Where something lies inside, either way moves the plane; else all bytes are set to zero.
 use mathlib.Core.Path.{sym, _∙_}
 use Prim.Native.Nat.{_+_, _<_}
+use Rattle.shift.specs.Bytes.{along}
 use Rattle.shift.proofs.Plane.{some-inside, out-zeroed}
 use borrow.Author.Needs.{needs}
 use Rattle.shift.proofs.move_plane.Statement.{statement}
@@ -21,11 +22,11 @@ returns c =
     let s = e .before .before in
     let a = s .args in
     c .before .before .clear-run .ensures
-    ∙ out-zeroed (a .dx) (a .dy) (a .w) (a .h) (a .bytes .now) (s .pre .0) (s .pre .1) (s .pre .2) (sym (e .moved-out .ensures) ∙ c .before .before .before .before .if1 .taken)
+    ∙ out-zeroed (along (a .dx)) (a .dy) (a .w) (a .h) (a .bytes .now) (s .pre .0) (s .pre .1) (s .pre .2) (sym (e .moved-out .ensures) ∙ c .before .before .before .before .if1 .taken)
 
 -- something lies inside
 room : (c : tie.Else1) → let a = c .before .before .before .args in (a .dx .plus + a .dx .minus < a .w) × (a .dy .plus + a .dy .minus < a .h)
-room c = let a = c .before .before .before .args in some-inside (a .dx) (a .dy) (a .w) (a .h) (sym (c .before .moved-out .ensures) ∙ c .if1 .left)
+room c = let a = c .before .before .before .args in some-inside (along (a .dx)) (a .dy) (a .w) (a .h) (sym (c .before .moved-out .ensures) ∙ c .if1 .left)
 
 add-if2 : tie.Need-add-if2
 add-if2 c = search needs

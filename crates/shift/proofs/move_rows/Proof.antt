@@ -2,14 +2,14 @@
 use mathlib.Core.Path.{_≡_, ap, _∙_}
 use Prim.Native.Nat.{_+_, _*_, _-_, _≤_, _<_}
 use native.Mathlib.Omega.{arith}
-use Rattle.shift.specs.Bytes.{zeroed}
+use Rattle.shift.specs.Bytes.{along, zeroed}
 use Rattle.shift.proofs.Columns.{row-fits}
 use Rattle.shift.proofs.Rows.{staying, rows-split, turn-in, Turned, none-turned, row-turned, rows-moved}
 use Rattle.shift.proofs.move_rows.Statement.{statement}
 use Rattle.shift.proofs.move_rows.Tie as tie
 
 abbrev Inv-loop : tie.InvT-loop
-Inv-loop bytes₀ w h dx dy down up kept k₀ bytes k = (k ≤ staying dy h) × Turned dx dy w h bytes₀ k bytes
+Inv-loop bytes₀ w h dx dy down up kept k₀ bytes k = (k ≤ staying dy h) × Turned (along dx) dy w h bytes₀ k bytes
 
 abbrev μ-loop : tie.MeasureT-loop
 μ-loop bytes₀ w h dx dy down up kept k₀ bytes k = kept - k
@@ -21,7 +21,7 @@ sub-kept : tie.Need-sub-kept Inv-loop μ-loop
 sub-kept c = omega arith
 
 loop-holds : tie.Need-loop-holds Inv-loop μ-loop
-loop-holds c = let a = c .before .args in (omega arith, none-turned (a .dx) (a .dy) (a .w) (a .h) (a .bytes .now))
+loop-holds c = let a = c .before .args in (omega arith, none-turned (along (a .dx)) (a .dy) (a .w) (a .h) (a .bytes .now))
 
 turn-row-requires : tie.Need-turn-row-requires Inv-loop μ-loop
 turn-row-requires c κs = omega arith
@@ -66,7 +66,7 @@ loop-again c =
     let a = s .args in (
       omega arith,
       rw (c .before .before .move-run .ensures, turn .turn-row .ensures)
-          (row-turned (a .dx) (a .dy) (a .w) (a .h) (a .bytes .now) (s .pre .0) (s .pre .2) (s .pre .3) (at .loop .k) (at .loop .bytes) (at .loop .inv .1) (omega arith)),
+          (row-turned (along (a .dx)) (a .dy) (a .w) (a .h) (a .bytes .now) (s .pre .0) (s .pre .2) (s .pre .3) (at .loop .k) (at .loop .bytes) (at .loop .inv .1) (omega arith)),
     )
 
 -- the rows above and below
@@ -107,7 +107,7 @@ returns c =
     let n = a .dy .plus + staying (a .dy) (a .h) in
     last .clear-run2 .ensures
     ∙ ap (zeroed (n * a .w) (a .dy .minus * a .w)) (first .clear-run .ensures)
-    ∙ rows-moved (a .dx) (a .dy) (a .w) (a .h) (a .bytes .now) (s .pre .0) (s .pre .2) (s .pre .3) (at .loop .k) (at .loop .bytes) (at .loop .inv .1) (omega arith) (s .pre .4)
+    ∙ rows-moved (along (a .dx)) (a .dy) (a .w) (a .h) (a .bytes .now) (s .pre .0) (s .pre .2) (s .pre .3) (at .loop .k) (at .loop .bytes) (at .loop .inv .1) (omega arith) (s .pre .4)
 
 pub move-rows-spec : {M : Type 1} → statement M
 move-rows-spec =

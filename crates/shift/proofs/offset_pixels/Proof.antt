@@ -3,7 +3,6 @@ use mathlib.Core.Path.{_≡_, ap, _∙_}
 use Prim.Native.Nat.{_≤_}
 use native.Mathlib.Omega.{arith}
 use borrow.Author.Needs.{needs}
-use Rattle.picture.specs.declared.LevelSize.{LevelSize}
 use Rattle.picture.proofs.Sizes.{room-is}
 use Rattle.binary32.specs.Round.{wholeOffset}
 use Rattle.binary32.specs.declared.Offset.{Offset}
@@ -13,9 +12,6 @@ use Rattle.shift.proofs.Rounded.{one-way, both-finite, rounded-held}
 use Rattle.shift.proofs.offset_pixels.Statement.{statement}
 use Rattle.shift.proofs.offset_pixels.Tie as tie
 
-level-zero-requires : tie.Need-level-zero-requires
-level-zero-requires c κs = search needs
-
 width-requires : tie.Need-width-requires
 width-requires c κs = search needs
 
@@ -23,16 +19,14 @@ height-requires : tie.Need-height-requires
 height-requires c κs = search needs
 
 abbrev start : tie.After-height → tie.Start
-start c = c .before .before .before .before
+start c = c .before .before .before
 
 -- the sides are the size's, and have room
 sides : (c : tie.After-height) → let z = start c .args .size in (c .before .width .result ≡ z .w) × (c .height .result ≡ z .h)
-sides c =
-    let z = c .before .before .level-zero .ensures in
-    (c .before .width .ensures ∙ ap (λ (l : LevelSize). l .w) z, c .height .ensures ∙ ap (λ (l : LevelSize). l .h) z)
+sides c = (c .before .width .ensures, c .height .ensures)
 
 fits : (c : tie.After-height) → let z = start c .args .size in (z .w ≤ 65536) × (z .h ≤ 65536)
-fits c = let z = start c .pre .sized in (omega (arith, z .w-high, room-is), omega (arith, z .h-high, room-is))
+fits c = let z = start c .pre .pictured .sized in (omega (arith, z .w-high, room-is), omega (arith, z .h-high, room-is))
 
 round-offset-requires : tie.Need-round-offset-requires
 round-offset-requires c κs = omega (arith, sides c, fits c)
@@ -54,18 +48,18 @@ down c =
 mul-move-plane : tie.Need-mul-move-plane
 mul-move-plane c = let m = c .before .before .before in omega (arith, sides m, fits m)
 
-mul-t14 : tie.Need-mul-t14
-mul-t14 c = let r = c .before .before in omega (arith, ap (λ (o : Offset). o .plus) (across r), fits (r .before .before))
+mul-t13 : tie.Need-mul-t13
+mul-t13 c = let r = c .before .before in omega (arith, ap (λ (o : Offset). o .plus) (across r), fits (r .before .before))
 
-mul-t15 : tie.Need-mul-t15
-mul-t15 c = let r = c .before .before .before in omega (arith, ap (λ (o : Offset). o .minus) (across r), fits (r .before .before))
+mul-t14 : tie.Need-mul-t14
+mul-t14 c = let r = c .before .before .before in omega (arith, ap (λ (o : Offset). o .minus) (across r), fits (r .before .before))
 
 move-plane-requires : tie.Need-move-plane-requires
 move-plane-requires c κs =
     let r = c .before .before .before in
     let m = r .before .before in
     let a = start m .args in (
-      plane-length _ _ (a .size .w) (a .size .h) (sides m .0) (sides m .1) (a .picture .now) (start m .pre .exact),
+      plane-length _ _ (a .size .w) (a .size .h) (sides m .0) (sides m .1) (a .picture .now) (start m .pre .pictured .exact),
       rw (across r) (omega (arith, one-way (a .dx))),
       rw (down r) (omega (arith, one-way (a .dy))),
     )
@@ -85,14 +79,13 @@ pub offset-pixels-spec : {M : Type 1} → statement M
 offset-pixels-spec =
     tie.close
     (tie.spec
-    level-zero-requires
     width-requires
     height-requires
     round-offset-requires
     round-offset-requires-2
     mul-move-plane
+    mul-t13
     mul-t14
-    mul-t15
     move-plane-requires
     same-length
     returns)

@@ -1,43 +1,11 @@
--- Each number is answered where its check refuses and none before it does.
+-- Checks 1 and 2, in front of check 7.
 use borrow.Author.Needs.{needs}
-use Rattle.picture.proofs.Passed.{in-front, none}
+use Rattle.picture.proofs.Passed.{in-front, in-front-of, none}
 use Rattle.shift.proofs.shift_refusal.Statement.{statement}
 use Rattle.shift.proofs.shift_refusal.Tie as tie
 
-wrong-offsets-requires : tie.Need-wrong-offsets-requires
-wrong-offsets-requires c κs = search needs
-
-first-requires : tie.Need-first-requires
-first-requires c κs = search needs
-
-wrong-length-requires : tie.Need-wrong-length-requires
-wrong-length-requires c κs = search needs
-
-first-requires-2 : tie.Need-first-requires-2
-first-requires-2 c κs = search needs
-
-wrong-sides-requires : tie.Need-wrong-sides-requires
-wrong-sides-requires c κs = search needs
-
-first-requires-3 : tie.Need-first-requires-3
-first-requires-3 c κs = search needs
-
 returns : tie.Need-returns
-returns c =
-    let two = c .before in
-    let seven = two .before .before in
-    in-front _ _ (c .first3 .ensures) (two .wrong-sides .ensures)
-    (in-front _ _ (two .before .first2 .ensures) (seven .wrong-length .ensures)
-    (in-front _ _ (seven .before .first .ensures) (seven .before .before .wrong-offsets .ensures) none))
+returns c = in-front-of _ _ (c .picture-refusal .ensures) (in-front _ _ (c .before .first .ensures) (c .before .before .wrong-offsets .ensures) none)
 
 pub shift-refusal-spec : {M : Type 1} → statement M
-shift-refusal-spec =
-    tie.close
-    (tie.spec
-    wrong-offsets-requires
-    first-requires
-    wrong-length-requires
-    first-requires-2
-    wrong-sides-requires
-    first-requires-3
-    returns)
+shift-refusal-spec = tie.close (tie.spec (λ c κs. search needs) (λ c κs. search needs) (λ c κs. search needs) returns)

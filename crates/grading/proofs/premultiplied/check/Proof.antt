@@ -3,10 +3,10 @@ use mathlib.Core.Path.{_≡_, _∙_, sym}
 use mathlib.Core.Bool.{false}
 use borrow.Author.Needs.{needs}
 use lib.ListN.{length}
-use Rattle.picture.specs.Refusal.{firstOf, wrongSides, wrongLength}
+use Rattle.picture.specs.Refusal.{firstElse, firstOf, wrongSides, wrongLength}
 use Rattle.picture.specs.Answer.{settled}
 use Rattle.grading.specs.Premultiplied.{checked}
-use Rattle.grading.proofs.Whole.{whole}
+use Rattle.picture.proofs.Sizes.{whole}
 use Rattle.grading.proofs.premultiplied.check.Statement.{statement}
 use Rattle.grading.proofs.premultiplied.check.Tie as tie
 
@@ -14,7 +14,7 @@ wrong-sides-requires : tie.Need-wrong-sides-requires
 wrong-sides-requires c κs = search needs
 
 returns : tie.Need-returns
-unfolding checked settled firstOf
+unfolding checked settled firstOf firstElse
 returns c = rw (sym (c .before .wrong-sides .ensures) ∙ c .if1 .taken)
 
 wrong-length-requires : tie.Need-wrong-length-requires
@@ -28,17 +28,20 @@ exact : (c : tie.Else2) → let a = c .before .before .before .before .before .a
 exact c = sym (c .before .wrong-length .ensures) ∙ c .if2 .left
 
 returns-2 : tie.Need-returns-2
-unfolding checked settled firstOf
+unfolding checked settled firstOf firstElse
 returns-2 c = rw (sides (c .before .before), sym (c .before .wrong-length .ensures) ∙ c .if2 .taken)
 
+full-size-requires : tie.Need-full-size-requires
+full-size-requires c κs = sides (c .before .before)
+
 scan-requires : tie.Need-scan-requires
-scan-requires c κs = whole _ _ _ (sides (c .before .before)) (exact c)
+scan-requires c κs = rw (c .full-size .ensures) (whole _ _ _ (sides (c .before .before .before)) (exact (c .before)))
 
 returns-3 : tie.Need-returns-3
-unfolding checked settled firstOf
-returns-3 c = rw (sides (c .before .before .before), exact (c .before)) (c .scan .ensures)
+unfolding checked settled firstOf firstElse
+returns-3 c = rw (sides (c .before .before .before .before), exact (c .before .before)) (c .scan .ensures ∙ rw (c .before .full-size .ensures))
 
 pub check-spec : {M : Type 1} → statement M
 check-spec =
     tie.close
-    (tie.spec wrong-sides-requires returns wrong-length-requires returns-2 scan-requires returns-3)
+    (tie.spec wrong-sides-requires returns wrong-length-requires returns-2 full-size-requires scan-requires returns-3)

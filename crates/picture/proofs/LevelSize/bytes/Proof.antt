@@ -6,10 +6,10 @@ use Rattle.picture.proofs.LevelSize.bytes.Statement.{statement}
 use Rattle.picture.proofs.LevelSize.bytes.Tie as tie
 
 mul-result : tie.Need-mul-result
-mul-result c = omega (arith, area (c .before .args .self) (c .before .pre))
+mul-result c = omega (arith, area (c .before .pre))
 
 mul-result-2 : tie.Need-mul-result-2
-mul-result-2 c = omega (arith, area (c .before .args .self) (c .before .pre))
+mul-result-2 c = omega (arith, area (c .before .pre))
 
 returns : tie.Need-returns
 returns c = search needs

@@ -7,8 +7,8 @@ use lib.ListN.{length, getD, drop, length-set}
 use lib.Seq.{drop-length}
 use Rattle.picture.specs.Build.{build}
 use Rattle.picture.proofs.Build.{build-ext, build-more}
-use Rattle.composite.proofs.copy_bytes.Statement.{statement}
-use Rattle.composite.proofs.copy_bytes.Tie as tie
+use Rattle.pixels.proofs.copy_bytes.Statement.{statement}
+use Rattle.pixels.proofs.copy_bytes.Tie as tie
 
 abbrev Inv-loop : tie.InvT-loop
 Inv-loop to₀ from i₀ to i = (i ≤ length to₀) × (to ≡ build i (λ k. getD from k 0) ++ drop i to₀) × (length to ≡ length to₀)

@@ -10,7 +10,7 @@ use Rattle.picture.specs.Build.{build}
 use Rattle.picture.specs.Planes.{Plane, bytesOf, chan, painted}
 use Rattle.picture.specs.declared.Pixel.{Pixel}
 use Rattle.picture.proofs.Build.{length-build, getD-build, build-ext, build-more}
-use Rattle.composite.specs.Pixels.{pixel, pixelAt, withPixel}
+use Rattle.pixels.specs.Pixels.{pixel, pixelAt, withPixelFrom, withPixel}
 
 -- channel c of pixel i
 abbrev pub at : List ℕ → ℕ → ℕ → ℕ
@@ -55,7 +55,7 @@ module _ {f : ℕ → ℕ → ℕ} {old : List ℕ} {n : ℕ} where
 
     -- it is written
     pub turn : {z : List ℕ} (q : Pixel) → i < n → 4 * i + 4 ≤ length new → z ≡ withPixel new i q → q ≡ pixel (f i) → Painting f old z (i + 1) n
-    unfolding withPixel
+    unfolding withPixelFrom
     turn {z} q l room ez eq =
         record {
           so = rw (

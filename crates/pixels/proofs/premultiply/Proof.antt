@@ -3,9 +3,9 @@ use Prim.Native.Nat.{_*_, _≤_}
 use native.Mathlib.Nat.{mul-le-mul}
 use native.Mathlib.Omega.{arith}
 use borrow.Author.Needs.{needs}
-use Rattle.composite.specs.Channels.{premultiply}
-use Rattle.composite.proofs.premultiply.Statement.{statement}
-use Rattle.composite.proofs.premultiply.Tie as tie
+use Rattle.pixels.specs.Channels.{premultiply}
+use Rattle.pixels.proofs.premultiply.Statement.{statement}
+use Rattle.pixels.proofs.premultiply.Tie as tie
 
 wide-requires : tie.Need-wide-requires
 wide-requires c κs = search needs

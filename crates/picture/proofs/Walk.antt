@@ -9,11 +9,10 @@ use lib.Dec.{ltb, eqb}
 use lib.ListN.{length, getD, set, length-set}
 use lib.Seq.{getD-set-same, getD-set-other}
 use borrow.Author.Tests.{lt-ltb, le-ltb, ltb-true, ltb-false, eqb-true, eqb-false}
 use Rattle.picture.specs.Build.{build}
 use Rattle.picture.specs.Planes.{Line}
-use Rattle.picture.proofs.Build.{length-build, getD-build, build-ext}
-use Rattle.shift.specs.Bytes.{lineOf}
-use Rattle.shift.proofs.Zeroed.{build-same}
+use Rattle.picture.proofs.Build.{length-build, getD-build, build-ext, build-same}
+use Rattle.picture.specs.Buffers.{lineOf}
 
 -- f below i, and g from there on
 abbrev pub upTo : ℕ → Line → Line → Line

@@ -1,8 +1,8 @@
 -- Each way out is one part of the definition's "or".
 use borrow.Author.Tests.{lt-ltb, le-ltb}
-use Rattle.grading.specs.Premultiplied.{exceeds}
-use Rattle.grading.proofs.premultiplied.exceeds.Statement.{statement}
-use Rattle.grading.proofs.premultiplied.exceeds.Tie as tie
+use Rattle.pixels.specs.Channels.{exceeds}
+use Rattle.pixels.proofs.exceeds.Statement.{statement}
+use Rattle.pixels.proofs.exceeds.Tie as tie
 
 returns : tie.Need-returns
 unfolding exceeds

@@ -1,13 +1,13 @@
 -- The first i bytes are zero, and the rest is as it was.
-use mathlib.Core.Path.{_≡_, refl}
+use mathlib.Core.Path.{_≡_, refl, sym, _∙_}
 use mathlib.Core.List.{_++_}
 use Prim.Native.Nat.{_≤_, _-_}
 use native.Mathlib.Omega.{arith}
 use borrow.Author.Fill.{fill-more}
 use lib.ListN.{length, drop, replicate, length-set}
-use Rattle.picture.specs.Planes.{cleared}
-use Rattle.picture.proofs.clear.Statement.{statement}
-use Rattle.picture.proofs.clear.Tie as tie
+use Rattle.picture.proofs.Planes.{cleared-is}
+use Rattle.picture.proofs.buffers.clear.Statement.{statement}
+use Rattle.picture.proofs.buffers.clear.Tie as tie
 
 abbrev Inv-loop : tie.InvT-loop
 Inv-loop work₀ n i₀ work i = (i ≤ n) × (length work ≡ length work₀) × (work ≡ replicate i 0 ++ drop i work₀)
@@ -38,10 +38,9 @@ same-length : tie.Need-same-length Inv-loop μ-loop
 same-length c = omega arith
 
 returns : tie.Need-returns Inv-loop μ-loop
-unfolding cleared
 returns c =
     let e : c .before .loop .i ≡ c .before .before .args .n = omega arith in
-    rw e at (c .before .loop .inv .2)
+    (rw e at (c .before .loop .inv .2)) ∙ sym (cleared-is (c .before .before .args .n) (c .before .before .args .work .now))
 
 pub clear-spec : {M : Type 1} → statement M
 clear-spec =

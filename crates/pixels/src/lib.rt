@@ -1,0 +1,86 @@
+// One pixel of a picture read and written, whether a channel of it exceeds alpha, a channel multiplied by its alpha; and bytes copied.
+use picture::Pixel;
+ghost use mathlib.Core.Path.{_≡_};
+ghost use Prim.Native.Nat.{_+_, _*_, _≤_};
+ghost use lib.ListN.{length};
+ghost use Rattle.pixels.specs.Pixels.{pixelFrom, pixelAt, withPixelFrom, withPixel};
+ghost use Rattle.pixels.specs.Channels.{exceeds, premultiply};
+
+// The pixel whose bytes start at byte o.
+pub fn pixel_from(bytes: &[u8], o: usize) -> Pixel
+    requires { ⌜ o + 4 ≤ length (now bytes) ⌝ }
+    ensures { λ r. ⌜ r ≡ pixelFrom (now (bytes .entry)) o ⌝ }
+{
+    Pixel {
+        r: bytes[o],
+        g: bytes[o + 1],
+        b: bytes[o + 2],
+        a: bytes[o + 3],
+    }
+}
+
+// Pixel i of all.
+pub fn pixel_at(bytes: &[u8], i: usize) -> Pixel
+    requires { ⌜ 4 * i + 4 ≤ length (now bytes) ⌝ }
+    ensures { λ r. ⌜ r ≡ pixelAt (now (bytes .entry)) i ⌝ }
+{
+    pixel_from(bytes, 4 * i)
+}
+
+// Writes a pixel whose bytes start at byte o.
+pub fn set_pixel_from(bytes: &mut [u8], o: usize, p: Pixel)
+    requires { ⌜ o + 4 ≤ length (now bytes) ⌝ }
+    ensures { λ _. ⌜ now (bytes .exit) ≡ withPixelFrom (now (bytes .entry)) o p ⌝ }
+{
+    bytes[o] = p.r;
+    bytes[o + 1] = p.g;
+    bytes[o + 2] = p.b;
+    bytes[o + 3] = p.a;
+}
+
+// Writes pixel i of all.
+pub fn set_pixel(bytes: &mut [u8], i: usize, p: Pixel)
+    requires { ⌜ 4 * i + 4 ≤ length (now bytes) ⌝ }
+    ensures { λ _. ⌜ now (bytes .exit) ≡ withPixel (now (bytes .entry)) i p ⌝ }
+{
+    set_pixel_from(bytes, 4 * i, p);
+}
+
+// Whether r, g or b exceeds a.
+pub fn exceeds(p: Pixel) -> bool
+    ensures { λ r. ⌜ r ≡ exceeds p ⌝ }
+{
+    if p.a < p.r {
+        return true;
+    }
+    if p.a < p.g {
+        return true;
+    }
+    p.a < p.b
+}
+
+// A byte with room for a product of two.
+pub fn wide(x: u8) -> u16
+    ensures { λ r. ⌜ r ≡ x ⌝ }
+{
+    x as u16
+}
+
+// A channel multiplied by its alpha.
+pub fn premultiply(channel: u8, alpha: u8) -> u8
+    ensures { λ r. ⌜ r ≡ premultiply channel alpha ⌝ }
+{
+    (wide(channel) * wide(alpha) / 255) as u8
+}
+
+// Copies all bytes.
+pub fn copy_bytes(to: &mut [u8], from: &[u8])
+    requires { ⌜ length (now to) ≡ length (now from) ⌝ }
+    ensures { λ _. ⌜ now (to .exit) ≡ now (from .entry) ⌝ }
+{
+    let mut i = 0;
+    while i < to.len() {
+        to[i] = from[i];
+        i += 1;
+    }
+}
