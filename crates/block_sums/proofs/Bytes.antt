@@ -22,7 +22,7 @@ use Rattle.lanes.specs.Lanes.{widened, laneSum}
 use Rattle.lanes.proofs.Taps.{weighted-taps}
 use Rattle.blocks.specs.Blocks.{blockValue}
 use Rattle.block_sums.specs.Bytes.{lineByte}
-use Rattle.block_sums.specs.Room.{Kernel}
+use Rattle.passes.specs.Kernel.{Kernel}
 use Rattle.block_sums.proofs.Taps.{few-taps, most-taps}
 
 -- the line holds a block of m elements and what the taps add at its ends

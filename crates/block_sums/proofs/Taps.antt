@@ -12,7 +12,8 @@ use Rattle.picture.specs.Refusal.{maxTaps, wrongTaps, zeroOrAbove}
 use Rattle.picture.proofs.Sizes.{room-is}
 use Rattle.picture.proofs.Tests.{neither}
 use Rattle.edges.specs.Edges.{Reach}
-use Rattle.block_sums.specs.Room.{Kernel, Source, whole, lanes, Buffers}
+use Rattle.passes.specs.Kernel.{Kernel}
+use Rattle.block_sums.specs.Room.{Source, whole, lanes, Buffers}
 
 -- the most taps are far fewer than arithmetic has room for
 pub few-taps : maxTaps ≤ 1024

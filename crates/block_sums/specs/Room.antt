@@ -1,18 +1,11 @@
 -- What the convolution of a block asks of its kernel, its line and its buffers.
-use mathlib.Core.Path.{_≡_}
-use mathlib.Core.Bool.{false}
 use mathlib.Core.List.{List}
 use Prim.Native.Nat.{ℕ, _+_, _-_, _*_, _≤_, _<_, min}
 use lib.Ieee.{Float}
 use lib.ListN.{length}
 use Rattle.picture.specs.Sizes.{sideRoom}
-use Rattle.picture.specs.Refusal.{maxTaps, wrongTaps}
-use Rattle.binary32.specs.Ranges.{anyOutside}
-
--- a kernel that checks 4 and 5 let through
-pub record Kernel (weights : List Float) : Type 0 where
-  pub counted : wrongTaps (length weights) ≡ false
-  pub inUnit : anyOutside weights ≡ false
+use Rattle.picture.specs.Refusal.{maxTaps}
+use Rattle.passes.specs.Kernel.{Kernel}
 
 -- a line that can be convolved
 pub record Source (src : List ℕ) (weights : List Float) (start len stride : ℕ) : Type 0 where

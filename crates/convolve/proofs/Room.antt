@@ -9,7 +9,8 @@ use lib.Ieee.{Float}
 use lib.ListN.{length, replicate, length-replicate}
 use Rattle.picture.specs.Refusal.{maxTaps}
 use Rattle.passes.proofs.Written.{le-or-lt}
-use Rattle.block_sums.specs.Room.{Kernel, whole, lanes, Buffers}
+use Rattle.passes.specs.Kernel.{Kernel}
+use Rattle.block_sums.specs.Room.{whole, lanes, Buffers}
 use Rattle.block_sums.proofs.Taps.{most-taps}
 use Rattle.convolve.specs.Lines.{short}
 

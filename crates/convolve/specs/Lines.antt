@@ -5,7 +5,7 @@ use Prim.Native.Nat.{ℕ, _*_, _≤_, _<_}
 use lib.Ieee.{Float}
 use lib.ListN.{length}
 use Rattle.picture.specs.Sizes.{sideRoom}
-use Rattle.block_sums.specs.Room.{Kernel}
+use Rattle.passes.specs.Kernel.{Kernel}
 
 -- lines one after the other, and as many bytes for what is made of them
 pub record Lines (src dst : List ℕ) (weights : List Float) (lines len stride : ℕ) : Type 0 where

@@ -8,18 +8,18 @@ use lib.Dec.{lit<}
 use lib.Ieee.{Float}
 use lib.ListN.{length, take, drop}
 use lib.Seq.{length-front}
-use borrow.Author.Tests.{ltb-false, eqb-true, not-false}
+use borrow.Author.Tests.{ltb-false}
 use Rattle.picture.specs.Planes.{cleared}
 use Rattle.picture.specs.Sizes.{fullSize}
-use Rattle.picture.specs.Refusal.{firstOf, wrongSides, wrongLength, tooShort}
-use Rattle.picture.proofs.Sizes.{full-sized}
+use Rattle.picture.specs.Refusal.{firstOf, wrongSides, tooShort}
+use Rattle.picture.proofs.Sizes.{whole}
 use Rattle.picture.proofs.Passed.{passed}
 use Rattle.picture.proofs.Tests.{neither}
 use Rattle.binary32.specs.Ranges.{anyOutside}
 use Rattle.composite.specs.Shadow.{InUnit}
 use Rattle.gaussian_blur.proofs.Outcomes.{cleared-part}
 use Rattle.drop_shadow.specs.Shadowed.{colourOf}
-use Rattle.drop_shadow.specs.Needs.{Accepted}
+use Rattle.drop_shadow.specs.Needs.{ShadowAccepted}
 use Rattle.drop_shadow.specs.Outcome.{eitherShort, notFinite, wrongColour, shadowChecks}
 use Rattle.drop_shadow.specs.declared.Recipe.{Recipe}
 
@@ -42,8 +42,8 @@ in-unit recipe e =
 
 -- the sizes, the kernel and the recipe are as the work needs them
 pub accepted : (p : List ℕ) (w h : ℕ) (s c : List ℕ) (weights : List Float) (n edge : ℕ) (recipe : Recipe) →
-    0 ≡ firstOf (shadowChecks (length p) w h (length s) (length c) weights n edge recipe) → (wrongSides w h ≡ false) × Accepted (fullSize w h) p s c weights recipe
-unfolding wrongLength tooShort eitherShort notFinite
+    0 ≡ firstOf (shadowChecks (length p) w h (length s) (length c) weights n edge recipe) → (wrongSides w h ≡ false) × ShadowAccepted (fullSize w h) p s c weights recipe
+unfolding tooShort eitherShort notFinite
 accepted p w h s c weights n edge recipe e =
     let one = passed _ _ (lit< tt) e in
     let two = passed _ _ (lit< tt) (one .1) in
@@ -56,10 +56,9 @@ accepted p w h s c weights n edge recipe e =
     let room = neither _ _ (three .0) in (
       one .0,
       record {
-        sized = full-sized w h (one .0);
-        picture-is = eqb-true _ _ (not-false _ (two .0));
+        pictured = whole p w h (one .0) (two .0);
         scratch-room = ltb-false _ _ (room .0);
         copy-room = ltb-false _ _ (room .1);
-        given = record { count = four .0; range = five .0; offsets = neither _ _ (seven .0) .0; colour = in-unit recipe (eight .0) };
+        given = record { kernel = record { counted = four .0; inUnit = five .0 }; offsets = neither _ _ (seven .0) .0; colour = in-unit recipe (eight .0) };
       },
     )

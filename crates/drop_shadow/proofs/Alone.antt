@@ -9,10 +9,10 @@ use borrow.Fn.Kinds.{Dens, endedOf}
 use denote.Triple.Clauses.{AtExit}
 use denote.Ref.{now}
 use lib.Dec.{eqb}
-use Rattle.picture.specs.Answer.{Answer, answered, settled}
+use Rattle.picture.specs.Answer.{Answer, answered, settled, LentCopy, lentCopy}
 use Rattle.picture.specs.Modes.{modeOf}
 use Rattle.picture.proofs.Answers.{accepted}
-use Rattle.drop_shadow.specs.Outcome.{Lent, lent, outcome}
+use Rattle.drop_shadow.specs.Outcome.{shadowOutcome}
 use Rattle.drop_shadow.specs.Alike.{Terms, outcomeOf, AlphaAlike}
 use Rattle.drop_shadow.specs.Shadowed.{shadowed}
 use Rattle.drop_shadow.proofs.Accepted as fits
@@ -30,16 +30,16 @@ number-is {A} r refusal left before after e = by (eqb refusal 0) refl e
     by false t e = ap (λ (o : Answer A). o .number) e
 
 -- the picture of a call that answers 0
-picture-is : (b : Lent) (t : Terms) (r : ℕ) (left : Lent) → answered r left ≡ outcomeOf b t → r ≡ 0 → t .composite ≡ false →
+picture-is : (b : LentCopy) (t : Terms) (r : ℕ) (left : LentCopy) → answered r left ≡ outcomeOf b t → r ≡ 0 → t .composite ≡ false →
     left .picture ≡ shadowed (modeOf (t .edge)) (t .weights) (t .n) (t .recipe) false (t .w) (t .h) (b .picture)
-unfolding outcome
+unfolding shadowOutcome
 picture-is b t r left e z alone =
-    ap (λ (l : Lent). l .picture) (accepted _ _ _ left (subst (λ (n : ℕ). answered n left ≡ outcomeOf b t) z e))
+    ap (λ (l : LentCopy). l .picture) (accepted _ _ _ left (subst (λ (n : ℕ). answered n left ≡ outcomeOf b t) z e))
     ∙ ap (λ (c : Bool). shadowed (modeOf (t .edge)) (t .weights) (t .n) (t .recipe) c (t .w) (t .h) (b .picture)) alone
 
-same : (a b : Lent) (t u : Terms) → AlphaAlike a b t u → (r₁ r₂ : ℕ) (left₁ left₂ : Lent) → answered r₁ left₁ ≡ outcomeOf a t → answered r₂ left₂ ≡ outcomeOf b u →
+same : (a b : LentCopy) (t u : Terms) → AlphaAlike a b t u → (r₁ r₂ : ℕ) (left₁ left₂ : LentCopy) → answered r₁ left₁ ≡ outcomeOf a t → answered r₂ left₂ ≡ outcomeOf b u →
     (r₁ ≡ r₂) × (r₁ ≡ 0 → left₁ .picture ≡ left₂ .picture)
-unfolding outcome
+unfolding shadowOutcome
 same a b t u alike r₁ r₂ left₁ left₂ h₁ h₂′ =
     let h₂ : answered r₂ left₂ ≡ outcomeOf b t = subst (λ (v : Terms). answered r₂ left₂ ≡ outcomeOf b v) (sym (alike .terms)) h₂′ in
     let n₁ = number-is r₁ _ left₁ _ _ h₁ in
@@ -53,8 +53,8 @@ same a b t u alike r₁ r₂ left₁ left₂ h₁ h₂′ =
     )
 
 -- a call's buffers and terms, out of the contract's own reading
-abbrev pub buffers : (κs : Lfts 4) → Dens κs kinds.ps → Lent
-buffers κs a = lent (now (a .0)) (now (a .1 .1 .1 .0)) (now (a .1 .1 .1 .1 .0))
+abbrev pub buffers : (κs : Lfts 4) → Dens κs kinds.ps → LentCopy
+buffers κs a = lentCopy (now (a .0)) (now (a .1 .1 .1 .0)) (now (a .1 .1 .1 .1 .0))
 
 abbrev pub terms : (κs : Lfts 4) → Dens κs kinds.ps → Terms
 terms κs a =
@@ -67,4 +67,4 @@ pub alpha-alone : (κ₁ κ₂ : Lfts 4) (a₁ : Dens κ₁ kinds.ps) (a₂ : De
     (r₁ ≡ r₂) × (r₁ ≡ 0 → now (x₁ .0) ≡ now (x₂ .0))
 alpha-alone κ₁ κ₂ a₁ a₂ r₁ r₂ x₁ x₂ alike h₁ h₂ =
     same (buffers κ₁ a₁) (buffers κ₂ a₂) (terms κ₁ a₁) (terms κ₂ a₂) alike r₁ r₂
-    (lent (now (x₁ .0)) (now (x₁ .1 .1 .1 .0)) (now (x₁ .1 .1 .1 .1 .0))) (lent (now (x₂ .0)) (now (x₂ .1 .1 .1 .0)) (now (x₂ .1 .1 .1 .1 .0))) h₁ h₂
+    (lentCopy (now (x₁ .0)) (now (x₁ .1 .1 .1 .0)) (now (x₁ .1 .1 .1 .1 .0))) (lentCopy (now (x₂ .0)) (now (x₂ .1 .1 .1 .0)) (now (x₂ .1 .1 .1 .1 .0))) h₁ h₂

@@ -6,8 +6,8 @@ use Prim.Native.Nat.{ℕ, _<_}
 use lib.Ieee.{Float}
 use lib.ListN.{length}
 use Rattle.picture.specs.Planes.{chan}
-use Rattle.picture.specs.Answer.{Answer}
-use Rattle.drop_shadow.specs.Outcome.{Lent, outcome}
+use Rattle.picture.specs.Answer.{Answer, LentCopy}
+use Rattle.drop_shadow.specs.Outcome.{shadowOutcome}
 use Rattle.drop_shadow.specs.declared.Recipe.{Recipe}
 
 -- what a call is given beside its buffers
@@ -21,11 +21,11 @@ pub record Terms : Type 0 where
   pub composite : Bool
 
 -- the contract's right side
-abbrev pub outcomeOf : Lent → Terms → Answer Lent
-outcomeOf b t = outcome (b .picture) (t .w) (t .h) (b .scratch) (b .copy) (t .weights) (t .n) (t .edge) (t .recipe) (t .composite)
+abbrev pub outcomeOf : LentCopy → Terms → Answer LentCopy
+outcomeOf b t = shadowOutcome (b .picture) (t .w) (t .h) (b .scratch) (b .copy) (t .weights) (t .n) (t .edge) (t .recipe) (t .composite)
 
 -- the same terms, without the original; buffers of the same lengths; and the same alpha at each pixel
-pub record AlphaAlike (a b : Lent) (t u : Terms) : Type 0 where
+pub record AlphaAlike (a b : LentCopy) (t u : Terms) : Type 0 where
   pub terms : t ≡ u
   pub alone : t .composite ≡ false
   pub picture : length (a .picture) ≡ length (b .picture)

@@ -7,7 +7,7 @@ use lib.Ieee.{Float}
 use Rattle.picture.specs.Planes.{bytesOf, cleared}
 use Rattle.picture.specs.Modes.{modeOf}
 use Rattle.picture.specs.Refusal.{Check, check, firstOf, pictureChecks, tooShort, tooDeep, wrongEdge}
-use Rattle.picture.specs.Answer.{Answer, settled}
+use Rattle.picture.specs.Answer.{Answer, settled, LentCopy, lentCopy}
 use Rattle.binary32.specs.Ranges.{finite, anyOutside}
 use Rattle.shift.specs.Outcome.{wrongOffsets}
 use Rattle.gaussian_blur.specs.Outcome.{kernelChecks}
@@ -34,18 +34,9 @@ shadowChecks picture w h scratch copy weights n edge recipe =
     ++ kernelChecks weights
     ++ (check 6 (tooDeep n) ∷ check 7 (notFinite recipe) ∷ check 8 (wrongColour recipe) ∷ check 9 (wrongEdge edge) ∷ [])
 
--- the lent buffers
-pub record Lent : Type 0 where
-  pub picture : List ℕ
-  pub scratch : List ℕ
-  pub copy : List ℕ
-
-abbrev pub lent : List ℕ → List ℕ → List ℕ → Lent
-lent p s c = record { picture = p; scratch = s; copy = c }
-
 -- the first refusal; or the picture with its shadow, and both work buffers zero where they were used
-unfoldable pub outcome : List ℕ → ℕ → ℕ → List ℕ → List ℕ → List Float → ℕ → ℕ → Recipe → Bool → Answer Lent
-outcome p w h s c weights n edge recipe composite =
+unfoldable pub shadowOutcome : List ℕ → ℕ → ℕ → List ℕ → List ℕ → List Float → ℕ → ℕ → Recipe → Bool → Answer LentCopy
+shadowOutcome p w h s c weights n edge recipe composite =
     settled (firstOf (shadowChecks (length p) w h (length s) (length c) weights n edge recipe))
-    (lent p s c)
-    (lent (shadowed (modeOf edge) weights n recipe composite w h p) (cleared (bytesOf w h) s) (cleared (bytesOf w h) c))
+    (lentCopy p s c)
+    (lentCopy (shadowed (modeOf edge) weights n recipe composite w h p) (cleared (bytesOf w h) s) (cleared (bytesOf w h) c))

@@ -5,12 +5,12 @@ use picture::FullSize;
 ghost use mathlib.Core.Path.{_≡_};
 ghost use lib.ListN.{length};
 ghost use Rattle.picture.specs.Planes.{bytesOf, cleared};
-ghost use Rattle.picture.specs.Sizes.{levelZero, levelBytes};
+ghost use Rattle.picture.specs.Sizes.{fullBytes};
 ghost use Rattle.picture.specs.Refusal.{firstOf};
-ghost use Rattle.picture.specs.Answer.{answered};
+ghost use Rattle.picture.specs.Answer.{answered, lentCopy};
 ghost use Rattle.drop_shadow.specs.Shadowed.{colourOf, cast, shadowed};
-ghost use Rattle.drop_shadow.specs.Needs.{Ready, Accepted};
-ghost use Rattle.drop_shadow.specs.Outcome.{eitherShort, notFinite, wrongColour, shadowChecks, lent, outcome};
+ghost use Rattle.drop_shadow.specs.Needs.{ShadowReady, ShadowAccepted};
+ghost use Rattle.drop_shadow.specs.Outcome.{eitherShort, notFinite, wrongColour, shadowChecks, shadowOutcome};
 
 // How a shadow is cast: its offsets, its blur's strength and its colour.
 pub struct Recipe {
@@ -44,7 +44,7 @@ fn cast_shadow(
     mode: EdgeMode,
     recipe: Recipe,
 )
-    requires { ⌜ Ready size (now scratch) (now copy) (now weights) recipe ⌝ }
+    requires { ⌜ ShadowReady size (now scratch) (now copy) (now weights) recipe ⌝ }
     ensures { λ _. ⌜ now (copy .exit) ≡ cast mode (now (weights .entry)) n recipe (size .w) (size .h) (now (copy .entry)) ⌝ }
 {
     shift::offset_pixels(copy, size, recipe.dx, recipe.dy);
@@ -63,14 +63,13 @@ pub fn apply_drop_shadow(
     recipe: Recipe,
     composite: bool,
 )
-    requires { ⌜ Ready size (now scratch) (now copy) (now weights) recipe ⌝ ∗ ⌜ length (now picture) ≡ levelBytes (levelZero size) ⌝ }
+    requires { ⌜ ShadowReady size (now scratch) (now copy) (now weights) recipe ⌝ ∗ ⌜ length (now picture) ≡ fullBytes size ⌝ }
     ensures { λ _. ⌜ now (picture .exit) ≡ shadowed mode (now (weights .entry)) n recipe composite (size .w) (size .h) (now (picture .entry)) ⌝ }
 {
-    composite::copy_bytes(copy, picture);
+    pixels::copy_bytes(copy, picture);
     cast_shadow(copy, size, scratch, weights, n, mode, recipe);
-    let s = size.level_zero();
     let colour = colour_of(recipe);
-    composite::write_colored_shadow(copy, picture, s, colour, composite);
+    composite::write_colored_shadow(copy, picture, size, colour, composite);
 }
 
 // Refusal 3's condition, of both work buffers.
@@ -102,7 +101,7 @@ fn wrong_colour(recipe: Recipe) -> bool
 }
 
 // The first of refusals 1 to 9 that fits, 0 where none does; of the buffers' lengths.
-pub fn shadow_refusal(
+fn shadow_refusal(
     picture: usize,
     w: u32,
     h: u32,
@@ -115,23 +114,32 @@ pub fn shadow_refusal(
 ) -> u32
     ensures { λ r. ⌜ r ≡ firstOf (shadowChecks picture w h scratch copy (now (weights .entry)) n edge recipe) ⌝ }
 {
-    let nine = picture::first(picture::WRONG_EDGE, picture::wrong_edge(edge), 0);
-    let eight = picture::first(picture::WRONG_COLOUR, wrong_colour(recipe), nine);
-    let seven = picture::first(picture::NOT_FINITE, not_finite(recipe), eight);
-    let six = picture::first(picture::TOO_DEEP, picture::too_deep(n), seven);
-    let five = picture::first(picture::WRONG_WEIGHT, binary32::any_outside(weights), six);
-    let four = picture::first(
-        picture::WRONG_TAPS,
-        picture::wrong_taps(weights.len()),
-        five,
-    );
-    let three = picture::first(picture::TOO_SHORT, either_short(scratch, copy, w, h), four);
-    let two = picture::first(
-        picture::WRONG_LENGTH,
-        picture::wrong_length(picture, w, h),
-        three,
-    );
-    picture::first(picture::WRONG_SIDES, picture::wrong_sides(w, h), two)
+    let short = either_short(scratch, copy, w, h);
+    picture::picture_refusal(
+        picture,
+        w,
+        h,
+        picture::first(
+            picture::TOO_SHORT,
+            short,
+            gaussian_blur::kernel_refusal(
+                weights,
+                picture::first(
+                    picture::TOO_DEEP,
+                    picture::too_deep(n),
+                    picture::first(
+                        picture::NOT_FINITE,
+                        not_finite(recipe),
+                        picture::first(
+                            picture::WRONG_COLOUR,
+                            wrong_colour(recipe),
+                            picture::first(picture::WRONG_EDGE, picture::wrong_edge(edge), 0),
+                        ),
+                    ),
+                ),
+            ),
+        ),
+    )
 }
 
 // An accepted call: the picture with its shadow, and the work buffers zero where they were used.
@@ -146,10 +154,10 @@ fn shadow_accepted(
     recipe: Recipe,
     composite: bool,
 )
-    requires { ⌜ Accepted size (now picture) (now scratch) (now copy) (now weights) recipe ⌝ }
-    ensures { λ _. ⌜ lent (now (picture .exit)) (now (scratch .exit)) (now (copy .exit)) ≡ lent (shadowed mode (now (weights .entry)) n recipe composite (size .w) (size .h) (now (picture .entry))) (cleared (bytesOf (size .w) (size .h)) (now (scratch .entry))) (cleared (bytesOf (size .w) (size .h)) (now (copy .entry))) ⌝ }
+    requires { ⌜ ShadowAccepted size (now picture) (now scratch) (now copy) (now weights) recipe ⌝ }
+    ensures { λ _. ⌜ lentCopy (now (picture .exit)) (now (scratch .exit)) (now (copy .exit)) ≡ lentCopy (shadowed mode (now (weights .entry)) n recipe composite (size .w) (size .h) (now (picture .entry))) (cleared (bytesOf (size .w) (size .h)) (now (scratch .entry))) (cleared (bytesOf (size .w) (size .h)) (now (copy .entry))) ⌝ }
 {
-    let k = size.level_zero().bytes();
+    let k = size.bytes();
     apply_drop_shadow(
         picture,
         size,
@@ -179,7 +187,7 @@ pub fn shadow(
     recipe: Recipe,
     composite: bool,
 ) -> u32
-    ensures { λ r. ⌜ answered r (lent (now (picture .exit)) (now (scratch .exit)) (now (copy .exit))) ≡ outcome (now (picture .entry)) w h (now (scratch .entry)) (now (copy .entry)) (now (weights .entry)) n edge recipe composite ⌝ }
+    ensures { λ r. ⌜ answered r (lentCopy (now (picture .exit)) (now (scratch .exit)) (now (copy .exit))) ≡ shadowOutcome (now (picture .entry)) w h (now (scratch .entry)) (now (copy .entry)) (now (weights .entry)) n edge recipe composite ⌝ }
 {
     let r = shadow_refusal(
         picture.len(),

@@ -7,15 +7,15 @@ use lib.Dec.{lit<}
 use lib.Ieee.{Float}
 use lib.ListN.{length, take, drop}
 use lib.Seq.{drop-at, length-take-le}
-use borrow.Author.Tests.{ltb-false, eqb-true, not-false}
+use borrow.Author.Tests.{ltb-false}
 use Rattle.picture.specs.Planes.{cleared}
-use Rattle.picture.specs.Sizes.{levelSize}
-use Rattle.picture.specs.Refusal.{firstOf, wrongSides, wrongLength, tooShort}
+use Rattle.picture.specs.Refusal.{firstOf, wrongSides, tooShort}
 use Rattle.picture.specs.declared.EdgeMode.{EdgeMode}
-use Rattle.picture.proofs.Sizes.{full-sized}
+use Rattle.picture.proofs.Sizes.{whole}
 use Rattle.picture.proofs.Passed.{passed}
+use Rattle.picture.proofs.Planes.{cleared-is}
 use Rattle.gaussian_blur.specs.Blurred.{blurred}
-use Rattle.gaussian_blur.specs.Needs.{Accepted}
+use Rattle.gaussian_blur.specs.Needs.{BlurAccepted}
 use Rattle.gaussian_blur.specs.Outcome.{blurChecks, aboveZero, blurredOrKept}
 
 module _ (mode : EdgeMode) (weights : List Float) (n : ℕ) (strength : Float) (w h : ℕ) (p : List ℕ) where
@@ -29,13 +29,12 @@ module _ (mode : EdgeMode) (weights : List Float) (n : ℕ) (strength : Float) (
 
 -- the first k bytes were lent and came back, and were cleared: nothing after them changed
 pub cleared-part : (k : ℕ) (work e : List ℕ) → k ≤ length work → length e ≡ length (take k work) → cleared k (e ++ drop k work) ≡ cleared k work
-unfolding cleared
-cleared-part k work e le len = rw (drop-at e (drop k work) k (len ∙ length-take-le k work le))
+cleared-part k work e le len = rw (cleared-is, cleared-is, drop-at e (drop k work) k (len ∙ length-take-le k work le))
 
 -- no refusal: the sizes and the kernel are as the work needs them
 pub accepted : (p : List ℕ) (w h : ℕ) (s : List ℕ) (weights : List Float) (n : ℕ) (strength : Float) (edge : ℕ) →
-    0 ≡ firstOf (blurChecks (length p) w h (length s) weights n strength edge) → (wrongSides w h ≡ false) × Accepted (levelSize w h) p s weights
-unfolding wrongLength tooShort
+    0 ≡ firstOf (blurChecks (length p) w h (length s) weights n strength edge) → (wrongSides w h ≡ false) × BlurAccepted w h p s weights
+unfolding tooShort
 accepted p w h s weights n strength edge e =
     let one = passed _ _ (lit< tt) e in
     let two = passed _ _ (lit< tt) (one .1) in
@@ -44,10 +43,8 @@ accepted p w h s weights n strength edge e =
     let five = passed _ _ (lit< tt) (four .1) in (
       one .0,
       record {
-        sized = full-sized w h (one .0);
-        picture-is = eqb-true _ _ (not-false _ (two .0));
+        pictured = whole p w h (one .0) (two .0);
         room = ltb-false _ _ (three .0);
-        count = four .0;
-        range = five .0;
+        kernel = record { counted = four .0; inUnit = five .0 };
       },
     )

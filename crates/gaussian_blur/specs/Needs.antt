@@ -1,27 +1,21 @@
 -- What a blur that is accepted needs.
 use mathlib.Core.Path.{_≡_}
-use mathlib.Core.Bool.{false}
 use mathlib.Core.List.{List}
 use Prim.Native.Nat.{ℕ, _≤_}
 use lib.Ieee.{Float}
 use lib.ListN.{length}
-use Rattle.picture.specs.Sizes.{levelBytes, Sized}
-use Rattle.picture.specs.Refusal.{wrongTaps}
-use Rattle.picture.specs.declared.LevelSize.{LevelSize}
-use Rattle.binary32.specs.Ranges.{anyOutside}
+use Rattle.picture.specs.Planes.{bytesOf}
+use Rattle.picture.specs.Sizes.{Pictured}
+use Rattle.passes.specs.Kernel.{Kernel}
 
--- a level and a scratch of exactly its size, and a kernel that checks 4 and 5 let through
-pub record Ready (s : LevelSize) (picture scratch : List ℕ) (weights : List Float) : Type 0 where
-  pub sized : Sized s
-  pub picture-is : length picture ≡ levelBytes s
-  pub scratch-is : length scratch ≡ levelBytes s
-  pub count : wrongTaps (length weights) ≡ false
-  pub range : anyOutside weights ≡ false
+-- a whole picture, or a level that is one, a scratch of exactly its size, and a kernel
+pub record BlurReady (w h : ℕ) (picture scratch : List ℕ) (weights : List Float) : Type 0 where
+  pub pictured : Pictured w h picture
+  pub scratch-is : length scratch ≡ bytesOf w h
+  pub kernel : Kernel weights
 
 -- the same, with a scratch that may be longer
-pub record Accepted (s : LevelSize) (picture scratch : List ℕ) (weights : List Float) : Type 0 where
-  pub sized : Sized s
-  pub picture-is : length picture ≡ levelBytes s
-  pub room : levelBytes s ≤ length scratch
-  pub count : wrongTaps (length weights) ≡ false
-  pub range : anyOutside weights ≡ false
+pub record BlurAccepted (w h : ℕ) (picture scratch : List ℕ) (weights : List Float) : Type 0 where
+  pub pictured : Pictured w h picture
+  pub room : bytesOf w h ≤ length scratch
+  pub kernel : Kernel weights

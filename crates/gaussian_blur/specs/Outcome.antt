@@ -42,8 +42,8 @@ abbrev pub lent : List ℕ → List ℕ → Lent
 lent p s = record { picture = p; scratch = s }
 
 -- the first refusal; or the picture blurred, and the scratch zero where it was used
-unfoldable pub outcome : List ℕ → ℕ → ℕ → List ℕ → List Float → ℕ → Float → ℕ → Answer Lent
-outcome p w h s weights n strength edge =
+unfoldable pub blurOutcome : List ℕ → ℕ → ℕ → List ℕ → List Float → ℕ → Float → ℕ → Answer Lent
+blurOutcome p w h s weights n strength edge =
     settled (firstOf (blurChecks (length p) w h (length s) weights n strength edge))
     (lent p s)
     (lent (blurredOrKept (modeOf edge) weights n strength w h p) (cleared (bytesOf w h) s))

@@ -6,15 +6,14 @@ ghost use mathlib.Core.Path.{_≡_};
 ghost use Prim.Native.Nat.{_≤_};
 ghost use lib.ListN.{length};
 ghost use Rattle.picture.specs.Planes.{bytesOf, cleared};
-ghost use Rattle.picture.specs.Sizes.{levelZero, levelBytes};
-ghost use Rattle.picture.specs.Refusal.{firstOf};
+ghost use Rattle.picture.specs.Refusal.{firstElse, firstOf};
 ghost use Rattle.picture.specs.Answer.{answered};
 ghost use Rattle.gaussian_blur.specs.Blurred.{blurred};
-ghost use Rattle.gaussian_blur.specs.Needs.{Ready, Accepted};
-ghost use Rattle.gaussian_blur.specs.Outcome.{blurChecks, blurredOrKept, lent, outcome};
+ghost use Rattle.gaussian_blur.specs.Needs.{BlurReady, BlurAccepted};
+ghost use Rattle.gaussian_blur.specs.Outcome.{kernelChecks, blurChecks, blurredOrKept, lent, blurOutcome};
 
 // Halves, blurs with one decimation fewer, and doubles; with none left it convolves.
-pub fn apply_blur(
+fn apply_blur(
     picture: &mut [u8],
     scratch: &mut [u8],
     s: LevelSize,
@@ -22,7 +21,7 @@ pub fn apply_blur(
     weights: &[f32],
     mode: EdgeMode,
 )
-    requires { ⌜ Ready s (now picture) (now scratch) (now weights) ⌝ }
+    requires { ⌜ BlurReady (s .w) (s .h) (now picture) (now scratch) (now weights) ⌝ }
     ensures { λ _. ⌜ now (picture .exit) ≡ blurred mode (now (weights .entry)) n (s .w) (s .h) (now (picture .entry)) ⌝ }
 {
     if n == 0 {
@@ -53,7 +52,7 @@ pub fn blur_or_keep(
     mode: EdgeMode,
     strength: f32,
 )
-    requires { ⌜ Ready (levelZero size) (now picture) (now scratch) (now weights) ⌝ }
+    requires { ⌜ BlurReady (size .w) (size .h) (now picture) (now scratch) (now weights) ⌝ }
     ensures { λ _. ⌜ now (picture .exit) ≡ blurredOrKept mode (now (weights .entry)) n strength (size .w) (size .h) (now (picture .entry)) ⌝ }
 {
     if 0.0 < strength {
@@ -61,8 +60,21 @@ pub fn blur_or_keep(
     }
 }
 
+// Checks 4 and 5, of a kernel, in front of what the later ones answer.
+pub fn kernel_refusal(weights: &[f32], later: u32) -> u32
+    ensures { λ r. ⌜ r ≡ firstElse (kernelChecks (now (weights .entry))) later ⌝ }
+{
+    let too_many = picture::wrong_taps(weights.len());
+    let outside = binary32::any_outside(weights);
+    picture::first(
+        picture::WRONG_TAPS,
+        too_many,
+        picture::first(picture::WRONG_WEIGHT, outside, later),
+    )
+}
+
 // The first of refusals 1 to 7 and 9 that fits, 0 where none does; of the buffers' lengths.
-pub fn blur_refusal(
+fn blur_refusal(
     picture: usize,
     w: u32,
     h: u32,
@@ -74,23 +86,29 @@ pub fn blur_refusal(
 ) -> u32
     ensures { λ r. ⌜ r ≡ firstOf (blurChecks picture w h scratch (now (weights .entry)) n strength edge) ⌝ }
 {
-    let nine = picture::first(picture::WRONG_EDGE, picture::wrong_edge(edge), 0);
+    let short = picture::too_short(scratch, w, h);
     let finite = binary32::is_finite(strength);
-    let seven = picture::first(picture::NOT_FINITE, !finite, nine);
-    let six = picture::first(picture::TOO_DEEP, picture::too_deep(n), seven);
-    let five = picture::first(picture::WRONG_WEIGHT, binary32::any_outside(weights), six);
-    let four = picture::first(
-        picture::WRONG_TAPS,
-        picture::wrong_taps(weights.len()),
-        five,
-    );
-    let three = picture::first(picture::TOO_SHORT, picture::too_short(scratch, w, h), four);
-    let two = picture::first(
-        picture::WRONG_LENGTH,
-        picture::wrong_length(picture, w, h),
-        three,
-    );
-    picture::first(picture::WRONG_SIDES, picture::wrong_sides(w, h), two)
+    picture::picture_refusal(
+        picture,
+        w,
+        h,
+        picture::first(
+            picture::TOO_SHORT,
+            short,
+            kernel_refusal(
+                weights,
+                picture::first(
+                    picture::TOO_DEEP,
+                    picture::too_deep(n),
+                    picture::first(
+                        picture::NOT_FINITE,
+                        !finite,
+                        picture::first(picture::WRONG_EDGE, picture::wrong_edge(edge), 0),
+                    ),
+                ),
+            ),
+        ),
+    )
 }
 
 // An accepted call: the picture blurred or kept, and the scratch zero where it was used.
@@ -103,10 +121,10 @@ fn blur_accepted(
     mode: EdgeMode,
     strength: f32,
 )
-    requires { ⌜ Accepted (levelZero size) (now picture) (now scratch) (now weights) ⌝ }
+    requires { ⌜ BlurAccepted (size .w) (size .h) (now picture) (now scratch) (now weights) ⌝ }
     ensures { λ _. ⌜ lent (now (picture .exit)) (now (scratch .exit)) ≡ lent (blurredOrKept mode (now (weights .entry)) n strength (size .w) (size .h) (now (picture .entry))) (cleared (bytesOf (size .w) (size .h)) (now (scratch .entry))) ⌝ }
 {
-    let k = size.level_zero().bytes();
+    let k = size.bytes();
     blur_or_keep(picture, &mut scratch[..k], size, n, weights, mode, strength);
     picture::clear(scratch, k);
 }
@@ -122,7 +140,7 @@ pub fn blur(
     strength: f32,
     edge: u32,
 ) -> u32
-    ensures { λ r. ⌜ answered r (lent (now (picture .exit)) (now (scratch .exit))) ≡ outcome (now (picture .entry)) w h (now (scratch .entry)) (now (weights .entry)) n strength edge ⌝ }
+    ensures { λ r. ⌜ answered r (lent (now (picture .exit)) (now (scratch .exit))) ≡ blurOutcome (now (picture .entry)) w h (now (scratch .entry)) (now (weights .entry)) n strength edge ⌝ }
 {
     let r = blur_refusal(
         picture.len(),

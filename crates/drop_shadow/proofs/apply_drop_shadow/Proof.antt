@@ -11,20 +11,17 @@ copy-bytes-requires c κs = search needs
 cast-shadow-requires : tie.Need-cast-shadow-requires
 cast-shadow-requires c κs = search needs
 
-level-zero-requires : tie.Need-level-zero-requires
-level-zero-requires c κs = search needs
-
 colour-of-requires : tie.Need-colour-of-requires
 colour-of-requires c κs = search needs
 
 write-colored-shadow-requires : tie.Need-write-colored-shadow-requires
 write-colored-shadow-requires c κs =
     let made = c .before .before in
-    let cast = made .before .before .before .before .before .before in
+    let cast = made .before .before .before .before .before in
     let copied = cast .before .before .before .before .before in
     let needs = copied .before .before .before .before .before .before .before .pre in
-    rw (made .before .level-zero .ensures, made .colour-of .ensures)
-    (needs .0 .sized, (needs .0 .given .colour, (cast .cast-shadow .kept .0 ∙ copied .copy-bytes .kept .0 ∙ needs .0 .copy-is, needs .1)))
+    rw (made .colour-of .ensures)
+    (record { sized = needs .0 .copied .sized; exact = cast .cast-shadow .kept .0 ∙ copied .copy-bytes .kept .0 ∙ needs .0 .copied .exact }, (needs .1, needs .0 .given .colour))
 
 same-length : tie.Need-same-length
 same-length c = search needs
@@ -40,9 +37,9 @@ unfolding shadowed
 returns c =
     let write = c .before .before .before .before in
     let made = write .before .before .before in
-    let cast = made .before .before .before .before .before .before in
+    let cast = made .before .before .before .before .before in
     let copied = cast .before .before .before .before .before in
-    rw (write .write-colored-shadow .ensures, made .colour-of .ensures, made .before .level-zero .ensures, cast .cast-shadow .ensures, copied .copy-bytes .ensures)
+    rw (write .write-colored-shadow .ensures, made .colour-of .ensures, cast .cast-shadow .ensures, copied .copy-bytes .ensures)
 
 pub apply-drop-shadow-spec : {M : Type 1} → statement M
 apply-drop-shadow-spec =
@@ -50,7 +47,6 @@ apply-drop-shadow-spec =
     (tie.spec
     copy-bytes-requires
     cast-shadow-requires
-    level-zero-requires
     colour-of-requires
     write-colored-shadow-requires
     same-length

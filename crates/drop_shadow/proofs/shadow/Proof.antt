@@ -5,8 +5,8 @@ use borrow.Author.Needs.{needs}
 use Rattle.picture.specs.Sizes.{fullSize}
 use Rattle.picture.specs.Refusal.{wrongSides}
 use Rattle.picture.proofs.Answers.{refused, done}
-use Rattle.drop_shadow.specs.Needs.{Accepted}
-use Rattle.drop_shadow.specs.Outcome.{outcome}
+use Rattle.drop_shadow.specs.Needs.{ShadowAccepted}
+use Rattle.drop_shadow.specs.Outcome.{shadowOutcome}
 use Rattle.drop_shadow.proofs.Accepted.{accepted}
 use Rattle.drop_shadow.proofs.shadow.Statement.{statement}
 use Rattle.drop_shadow.proofs.shadow.Tie as tie
@@ -15,7 +15,7 @@ shadow-refusal-requires : tie.Need-shadow-refusal-requires
 shadow-refusal-requires c κs = search needs
 
 returns : tie.Need-returns
-unfolding outcome
+unfolding shadowOutcome
 returns c =
     let f = c .if1 .taken in
     rw (c .before .shadow-refusal .ensures) (refused _ _ _ (λ e. f (c .before .shadow-refusal .ensures ∙ e)))
@@ -23,7 +23,7 @@ returns c =
 -- nothing was refused
 fine : (c : tie.Else1) →
     let a = c .before .before .before .before .before .before .args in
-    (wrongSides (a .w) (a .h) ≡ false) × Accepted (fullSize (a .w) (a .h)) (a .picture .now) (a .scratch .now) (a .copy .now) (a .weights .now) (a .recipe)
+    (wrongSides (a .w) (a .h) ≡ false) × ShadowAccepted (fullSize (a .w) (a .h)) (a .picture .now) (a .scratch .now) (a .copy .now) (a .weights .now) (a .recipe)
 fine c =
     let a = c .before .before .before .before .before .before .args in
     accepted (a .picture .now) (a .w) (a .h) (a .scratch .now) (a .copy .now) (a .weights .now) (a .n) (a .edge) (a .recipe) (sym (c .if1 .left) ∙ c .before .shadow-refusal .ensures)
@@ -49,7 +49,7 @@ same-length-3 : tie.Need-same-length-3
 same-length-3 c = search needs
 
 returns-2 : tie.Need-returns-2
-unfolding outcome
+unfolding shadowOutcome
 returns-2 c =
     let v = c .before .before .before .before .before .before in
     let mode = v .before .before .before .before in

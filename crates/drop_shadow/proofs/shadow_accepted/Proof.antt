@@ -4,26 +4,19 @@ use Prim.Native.Nat.{_≤_}
 use native.Mathlib.Omega.{arith}
 use lib.ListN.{length}
 use lib.Seq.{length-take-le}
-use Rattle.picture.specs.Sizes.{levelZero, levelBytes}
 use Rattle.drop_shadow.proofs.Accepted.{comes-back, cleared-whole}
 use borrow.Author.Needs.{needs}
 use Rattle.drop_shadow.proofs.shadow_accepted.Statement.{statement}
 use Rattle.drop_shadow.proofs.shadow_accepted.Tie as tie
 
-level-zero-requires : tie.Need-level-zero-requires
-level-zero-requires c κs = search needs
-
 bytes-requires : tie.Need-bytes-requires
-bytes-requires c κs = rw (c .level-zero .ensures) (c .before .before .before .before .before .pre .sized)
+bytes-requires c κs = c .before .before .before .before .pre .pictured .sized
 
--- k is what the picture takes, and lies within both work buffers
-k-is : (c : tie.After-bytes) → c .bytes .result ≡ levelBytes (levelZero (c .before .before .before .before .before .before .args .size))
-k-is c = c .bytes .ensures ∙ ap levelBytes (c .before .level-zero .ensures)
-
-k-fits : (c : tie.After-bytes) → let a = c .before .before .before .before .before .before .args in (c .bytes .result ≤ length (a .scratch .now)) × (c .bytes .result ≤ length (a .copy .now))
+-- what the picture takes lies within both work buffers
+k-fits : (c : tie.After-bytes) → let a = c .before .before .before .before .before .args in (c .bytes .result ≤ length (a .scratch .now)) × (c .bytes .result ≤ length (a .copy .now))
 k-fits c =
-    let r = c .before .before .before .before .before .before .pre in
-    let e = k-is c in
+    let r = c .before .before .before .before .before .pre in
+    let e = c .bytes .ensures in
     (omega (arith, r .scratch-room), omega (arith, r .copy-room))
 
 slice-relend-prefix-apply-drop-shadow : tie.Need-slice-relend-prefix-apply-drop-shadow
@@ -41,9 +34,12 @@ slice-aggregate-apply-drop-shadow-2 c = sym (length-take-le _ _ (k-fits (c .befo
 apply-drop-shadow-requires : tie.Need-apply-drop-shadow-requires
 apply-drop-shadow-requires c κs =
     let b = c .before .before .before in
-    let r = b .before .before .before .before .before .before .pre in
+    let r = b .before .before .before .before .before .pre in
     let f = k-fits b in
-    (record { sized = r .sized; scratch-is = length-take-le _ _ (f .0) ∙ k-is b; copy-is = length-take-le _ _ (f .1) ∙ k-is b; given = r .given }, r .picture-is)
+    let exact = b .bytes .ensures in (
+      record { copied = record { sized = r .pictured .sized; exact = length-take-le _ _ (f .1) ∙ exact }; scratch-is = length-take-le _ _ (f .0) ∙ exact; given = r .given },
+      r .pictured .exact,
+    )
 
 clear-requires : tie.Need-clear-requires
 clear-requires c κs =
@@ -69,19 +65,18 @@ returns c =
     let first = c .before .before .before .before .before .before in
     let v = first .before .before .before .before .before .before .before .before in
     let b = v .before .before .before .before in
-    let a = b .before .before .before .before .before .before .args in
+    let a = b .before .before .before .before .before .args in
     let f = k-fits b in
     rw (
       v .apply-drop-shadow .ensures,
-      cleared-whole (a .scratch .now) (v .apply-drop-shadow .last .1 .1 .0) (k-is b) (f .0) (v .apply-drop-shadow .kept .1 .1 .0) (first .clear .ensures),
-      cleared-whole (a .copy .now) (v .apply-drop-shadow .last .1 .1 .1 .0) (k-is b) (f .1) (v .apply-drop-shadow .kept .1 .1 .1 .0) (c .before .before .clear2 .ensures),
+      cleared-whole (a .scratch .now) (v .apply-drop-shadow .last .1 .1 .0) (b .bytes .ensures) (f .0) (v .apply-drop-shadow .kept .1 .1 .0) (first .clear .ensures),
+      cleared-whole (a .copy .now) (v .apply-drop-shadow .last .1 .1 .1 .0) (b .bytes .ensures) (f .1) (v .apply-drop-shadow .kept .1 .1 .1 .0) (c .before .before .clear2 .ensures),
     )
 
 pub shadow-accepted-spec : {M : Type 1} → statement M
 shadow-accepted-spec =
     tie.close
     (tie.spec
-    level-zero-requires
     bytes-requires
     slice-relend-prefix-apply-drop-shadow
     slice-aggregate-apply-drop-shadow

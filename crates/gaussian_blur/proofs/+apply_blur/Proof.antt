@@ -49,17 +49,17 @@ module _ (t : ℕ) where
   convolve-level-requires : lts.Need-convolve-level-requires (calls t) (at t) apply-blur.Post
   convolve-level-requires c κs =
       let r = c .before .before .before .before .before .before .pre .1 in
-      (r .sized, (r .picture-is, (r .scratch-is, record { counted = r .count; inUnit = r .range })))
+      (r .pictured .sized, (r .pictured .exact, (r .scratch-is, r .kernel)))
 
   half-requires : lts.Need-half-requires (calls t) (at t) apply-blur.Post
-  half-requires c κs = c .before .before .before .before .pre .1 .sized
+  half-requires c κs = c .before .before .before .before .pre .1 .pictured .sized
 
   bytes-requires : lts.Need-bytes-requires (calls t) (at t) apply-blur.Post
-  bytes-requires c κs = let st = c .before .before .before .before .before in rw (c .half .ensures) (half-sized (st .args .s) (st .pre .1 .sized))
+  bytes-requires c κs = let st = c .before .before .before .before .before in rw (c .half .ensures) (half-sized (st .args .s) (st .pre .1 .pictured .sized))
 
   halve-level-requires : lts.Need-halve-level-requires (calls t) (at t) apply-blur.Post
   halve-level-requires c κs =
-      let r = c .before .before .before .before .before .before .before .before .pre .1 in record { sized = r .sized; picture-length = r .picture-is; scratch-length = r .scratch-is }
+      let r = c .before .before .before .before .before .before .before .before .pre .1 in record { sized = r .pictured .sized; picture-length = r .pictured .exact; scratch-length = r .scratch-is }
 
   -- after the halving: the part is as long as its size says, and lies within both buffers
   part : (c : lts.After-halve-level (calls t) (at t) apply-blur.Post) →
@@ -71,8 +71,8 @@ module _ (t : ℕ) where
       let b = c .before .before .before in
       let st = b .before .before .before .before .before .before in
       let e : b .bytes .result ≡ levelBytes (halfLevel (st .args .s)) = b .bytes .ensures ∙ ap levelBytes (b .before .half .ensures) in
-      let f = half-fits (st .args .s) (st .pre .1 .sized) in
-      let l₀ : length (c .halve-level .last .0) ≡ levelBytes (st .args .s) = c .halve-level .kept .0 ∙ st .pre .1 .picture-is in
+      let f = half-fits (st .args .s) (st .pre .1 .pictured .sized) in
+      let l₀ : length (c .halve-level .last .0) ≡ levelBytes (st .args .s) = c .halve-level .kept .0 ∙ st .pre .1 .pictured .exact in
       let l₁ : length (c .halve-level .last .1 .0) ≡ levelBytes (st .args .s) = c .halve-level .kept .1 .0 ∙ st .pre .1 .scratch-is in
       (omega arith, omega arith, l₀, l₁)
 
@@ -98,11 +98,12 @@ module _ (t : ℕ) where
       let st = b .before .before .before .before .before .before in (
         omega (arith, st .pre .0, b .before .before .if1 .left),
         record {
-          sized = rw (b .before .half .ensures) (half-sized (st .args .s) (st .pre .1 .sized));
-          picture-is = length-take-le _ _ (part h .0) ∙ b .bytes .ensures;
+          pictured = record {
+            sized = rw (b .before .half .ensures) (half-sized (st .args .s) (st .pre .1 .pictured .sized));
+            exact = length-take-le _ _ (part h .0) ∙ b .bytes .ensures;
+          };
           scratch-is = length-take-le _ _ (part h .1) ∙ b .bytes .ensures;
-          count = st .pre .1 .count;
-          range = st .pre .1 .range;
+          kernel = st .pre .1 .kernel;
         },
       )
 
@@ -122,7 +123,7 @@ module _ (t : ℕ) where
   double-level-requires : lts.Need-double-level-requires (calls t) (at t) apply-blur.Post
   double-level-requires c κs =
       let r = c .before .before .before .before .before .before in
-      record { sized = r .before .before .before .before .before .before .before .before .before .before .before .before .before .before .before .before .pre .1 .sized; picture-length = back r .0; scratch-length = back r .1 }
+      record { sized = r .before .before .before .before .before .before .before .before .before .before .before .before .before .before .before .before .pre .1 .pictured .sized; picture-length = back r .0; scratch-length = back r .1 }
 
   same-length : lts.Need-same-length (calls t) (at t) apply-blur.Post
   same-length c = search needs
@@ -135,13 +136,13 @@ module _ (t : ℕ) where
       let v = c .before .before .before .before in
       let st = v .before .before .before .before .before .before .before in
       let a = st .args in
-      v .convolve-level .ensures ∙ blurred-none (a .mode) (a .weights .now) (a .s) (st .pre .1 .sized) (a .picture .now) (a .n) (v .before .before .before .if1 .taken)
+      v .convolve-level .ensures ∙ blurred-none (a .mode) (a .weights .now) (a .s) (st .pre .1 .pictured .sized) (a .picture .now) (a .n) (v .before .before .before .if1 .taken)
 
   same-length-3 : lts.Need-same-length-3 (calls t) (at t) apply-blur.Post
   same-length-3 c =
       let d = c .before .before .before .before in
       let r = d .before .before .before .before .before .before .before in
-      d .double-level .kept .0 ∙ back r .0 ∙ sym (r .before .before .before .before .before .before .before .before .before .before .before .before .before .before .before .before .pre .1 .picture-is)
+      d .double-level .kept .0 ∙ back r .0 ∙ sym (r .before .before .before .before .before .before .before .before .before .before .before .before .before .before .before .before .pre .1 .pictured .exact)
 
   same-length-4 : lts.Need-same-length-4 (calls t) (at t) apply-blur.Post
   same-length-4 c =
@@ -157,7 +158,7 @@ module _ (t : ℕ) where
       let b = h .before .before .before in
       let st = b .before .before .before .before .before .before in
       let a = st .args in
-      step (a .mode) (a .weights .now) (a .s) (st .pre .1 .sized) (a .picture .now) (a .n) (b .before .half .result) (b .bytes .result) (h .halve-level .last .0) (r .apply-blur .last .0) (d .double-level .last .0)
+      step (a .mode) (a .weights .now) (a .s) (st .pre .1 .pictured .sized) (a .picture .now) (a .n) (b .before .half .result) (b .bytes .result) (h .halve-level .last .0) (r .apply-blur .last .0) (d .double-level .last .0)
       (b .before .before .if1 .left) (b .before .half .ensures) (b .bytes .ensures) (part h .0) (r .apply-blur .kept .0) (h .halve-level .ensures) (r .apply-blur .ensures) (d .double-level .ensures)
 
 pub +apply-blur-spec : {M : Type 1} → statement M

@@ -1,11 +1,10 @@
 -- Refused, or the work of an accepted call.
 use mathlib.Core.Path.{_≡_, sym, _∙_}
 use mathlib.Core.Bool.{false}
-use Rattle.picture.specs.Sizes.{levelSize}
 use Rattle.picture.specs.Refusal.{wrongSides}
 use Rattle.picture.proofs.Answers.{refused, done}
-use Rattle.gaussian_blur.specs.Needs.{Accepted}
-use Rattle.gaussian_blur.specs.Outcome.{outcome}
+use Rattle.gaussian_blur.specs.Needs.{BlurAccepted}
+use Rattle.gaussian_blur.specs.Outcome.{blurOutcome}
 use Rattle.gaussian_blur.proofs.Outcomes.{accepted}
 use borrow.Author.Needs.{needs}
 use Rattle.gaussian_blur.proofs.blur.Statement.{statement}
@@ -15,13 +14,13 @@ blur-refusal-requires : tie.Need-blur-refusal-requires
 blur-refusal-requires c κs = search needs
 
 returns : tie.Need-returns
-unfolding outcome
+unfolding blurOutcome
 returns c =
     let f = c .if1 .taken in
     rw (c .before .blur-refusal .ensures) (refused _ _ _ (λ e. f (c .before .blur-refusal .ensures ∙ e)))
 
 -- nothing was refused
-fine : (c : tie.Else1) → let a = c .before .before .before .before .before .args in (wrongSides (a .w) (a .h) ≡ false) × Accepted (levelSize (a .w) (a .h)) (a .picture .now) (a .scratch .now) (a .weights .now)
+fine : (c : tie.Else1) → let a = c .before .before .before .before .before .args in (wrongSides (a .w) (a .h) ≡ false) × BlurAccepted (a .w) (a .h) (a .picture .now) (a .scratch .now) (a .weights .now)
 fine c =
     let a = c .before .before .before .before .before .args in
     accepted (a .picture .now) (a .w) (a .h) (a .scratch .now) (a .weights .now) (a .n) (a .strength) (a .edge) (sym (c .if1 .left) ∙ c .before .blur-refusal .ensures)
@@ -42,7 +41,7 @@ same-length-2 : tie.Need-same-length-2
 same-length-2 c = search needs
 
 returns-2 : tie.Need-returns-2
-unfolding outcome
+unfolding blurOutcome
 returns-2 c =
     let v = c .before .before .before .before in
     let e = v .before .before .before .before .before in

@@ -5,25 +5,18 @@ use native.Mathlib.Omega.{arith}
 use lib.ListN.{length}
 use lib.Seq.{length-take-le, length-front}
 use Rattle.picture.specs.Planes.{cleared}
-use Rattle.picture.specs.Sizes.{levelZero, levelBytes}
 use Rattle.gaussian_blur.specs.Outcome.{lent}
 use Rattle.gaussian_blur.proofs.Outcomes.{cleared-part}
 use borrow.Author.Needs.{needs}
 use Rattle.gaussian_blur.proofs.blur_accepted.Statement.{statement}
 use Rattle.gaussian_blur.proofs.blur_accepted.Tie as tie
 
-level-zero-requires : tie.Need-level-zero-requires
-level-zero-requires c κs = search needs
-
 bytes-requires : tie.Need-bytes-requires
-bytes-requires c κs = rw (c .level-zero .ensures) (c .before .before .before .before .pre .sized)
+bytes-requires c κs = c .before .before .before .pre .pictured .sized
 
--- k is what the picture takes, and lies within the scratch
-k-is : (c : tie.After-bytes) → c .bytes .result ≡ levelBytes (levelZero (c .before .before .before .before .before .args .size))
-k-is c = c .bytes .ensures ∙ ap levelBytes (c .before .level-zero .ensures)
-
-k-fits : (c : tie.After-bytes) → c .bytes .result ≤ length (c .before .before .before .before .before .args .scratch .now)
-k-fits c = let r = c .before .before .before .before .before .pre in omega (arith, k-is c, r .room)
+-- what the picture takes lies within the scratch
+k-fits : (c : tie.After-bytes) → c .bytes .result ≤ length (c .before .before .before .before .args .scratch .now)
+k-fits c = let r = c .before .before .before .before .pre in omega (arith, c .bytes .ensures, r .room)
 
 slice-relend-prefix-blur-or-keep : tie.Need-slice-relend-prefix-blur-or-keep
 slice-relend-prefix-blur-or-keep c = k-fits (c .before)
@@ -34,20 +27,14 @@ slice-aggregate-blur-or-keep c = sym (length-take-le _ _ (k-fits (c .before .bef
 blur-or-keep-requires : tie.Need-blur-or-keep-requires
 blur-or-keep-requires c κs =
     let b = c .before .before in
-    let r = b .before .before .before .before .before .pre in
-    record {
-      sized = r .sized;
-      picture-is = r .picture-is;
-      scratch-is = length-take-le _ _ (k-fits b) ∙ k-is b;
-      count = r .count;
-      range = r .range;
-    }
+    let r = b .before .before .before .before .pre in
+    record { pictured = r .pictured; scratch-is = length-take-le _ _ (k-fits b) ∙ b .bytes .ensures; kernel = r .kernel }
 
 clear-requires : tie.Need-clear-requires
 clear-requires c κs =
     let v = c .before .before .before .before .before in
     let b = v .before .before .before in
-    let a = b .before .before .before .before .before .args in
+    let a = b .before .before .before .before .args in
     omega (arith, length-front (a .scratch .now) (v .blur-or-keep .last .1 .0) (b .bytes .result) (v .blur-or-keep .kept .1 .0), k-fits b)
 
 same-length : tie.Need-same-length
@@ -60,17 +47,16 @@ returns : tie.Need-returns
 returns c =
     let v = c .before .before .before .before .before .before .before .before in
     let b = v .before .before .before in
-    let a = b .before .before .before .before .before .args in
+    let a = b .before .before .before .before .args in
     ap₂ lent (v .blur-or-keep .ensures)
     (c .before .before .clear .ensures
     ∙ cleared-part (b .bytes .result) (a .scratch .now) (v .blur-or-keep .last .1 .0) (k-fits b) (v .blur-or-keep .kept .1 .0)
-    ∙ ap (λ (n : ℕ). cleared n (a .scratch .now)) (k-is b))
+    ∙ ap (λ (n : ℕ). cleared n (a .scratch .now)) (b .bytes .ensures))
 
 pub blur-accepted-spec : {M : Type 1} → statement M
 blur-accepted-spec =
     tie.close
     (tie.spec
-    level-zero-requires
     bytes-requires
     slice-relend-prefix-blur-or-keep
     slice-aggregate-blur-or-keep

@@ -2,94 +2,34 @@
 use mathlib.Core.Path.{ap}
 use mathlib.Core.Bool.{not}
 use borrow.Author.Needs.{needs}
-use Rattle.picture.proofs.Passed.{in-front, none}
+use Rattle.picture.proofs.Passed.{in-front, in-front-of, none}
 use Rattle.gaussian_blur.proofs.blur_refusal.Statement.{statement}
 use Rattle.gaussian_blur.proofs.blur_refusal.Tie as tie
 
-wrong-edge-requires : tie.Need-wrong-edge-requires
-wrong-edge-requires c κs = search needs
-
-first-requires : tie.Need-first-requires
-first-requires c κs = search needs
-
-is-finite-requires : tie.Need-is-finite-requires
-is-finite-requires c κs = search needs
-
-first-requires-2 : tie.Need-first-requires-2
-first-requires-2 c κs = search needs
-
-too-deep-requires : tie.Need-too-deep-requires
-too-deep-requires c κs = search needs
-
-first-requires-3 : tie.Need-first-requires-3
-first-requires-3 c κs = search needs
-
-any-outside-requires : tie.Need-any-outside-requires
-any-outside-requires c κs = search needs
-
-first-requires-4 : tie.Need-first-requires-4
-first-requires-4 c κs = search needs
-
-wrong-taps-requires : tie.Need-wrong-taps-requires
-wrong-taps-requires c κs = search needs
-
-first-requires-5 : tie.Need-first-requires-5
-first-requires-5 c κs = search needs
-
-too-short-requires : tie.Need-too-short-requires
-too-short-requires c κs = search needs
-
-first-requires-6 : tie.Need-first-requires-6
-first-requires-6 c κs = search needs
-
-wrong-length-requires : tie.Need-wrong-length-requires
-wrong-length-requires c κs = search needs
-
-first-requires-7 : tie.Need-first-requires-7
-first-requires-7 c κs = search needs
-
-wrong-sides-requires : tie.Need-wrong-sides-requires
-wrong-sides-requires c κs = search needs
-
-first-requires-8 : tie.Need-first-requires-8
-first-requires-8 c κs = search needs
-
 returns : tie.Need-returns
 returns c =
-    let two = c .before in
-    let three = two .before .before in
-    let four = three .before .before in
-    let five = four .before .before in
-    let six = five .before .before in
-    let seven = six .before .before in
-    let nine = seven .before .before in
-    in-front _ _ (c .first8 .ensures) (two .wrong-sides .ensures)
-    (in-front _ _ (two .before .first7 .ensures) (three .wrong-length .ensures)
-    (in-front _ _ (three .before .first6 .ensures) (four .too-short .ensures)
-    (in-front _ _ (four .before .first5 .ensures) (five .wrong-taps .ensures)
-    (in-front _ _ (five .before .first4 .ensures) (six .any-outside .ensures)
-    (in-front _ _ (six .before .first3 .ensures) (seven .too-deep .ensures)
-    (in-front _ _ (seven .before .first2 .ensures) (ap not (nine .is-finite .ensures))
-    (in-front _ _ (nine .before .first .ensures) (nine .before .before .wrong-edge .ensures) none)))))))
+    let kernel = c .before .before in
+    let seven = kernel .before .before in
+    let tests = seven .before .before in
+    in-front-of _ _ (c .picture-refusal .ensures)
+    (in-front _ _ (c .before .first4 .ensures) (tests .before .before .before .too-short .ensures)
+    (in-front-of _ _ (kernel .kernel-refusal .ensures)
+    (in-front _ _ (kernel .before .first3 .ensures) (tests .before .too-deep .ensures)
+    (in-front _ _ (seven .first2 .ensures) (ap not (tests .before .before .is-finite .ensures))
+    (in-front _ _ (seven .before .first .ensures) (tests .wrong-edge .ensures) none)))))
 
 pub blur-refusal-spec : {M : Type 1} → statement M
 blur-refusal-spec =
     tie.close
     (tie.spec
-    wrong-edge-requires
-    first-requires
-    is-finite-requires
-    first-requires-2
-    too-deep-requires
-    first-requires-3
-    any-outside-requires
-    first-requires-4
-    wrong-taps-requires
-    first-requires-5
-    too-short-requires
-    first-requires-6
-    wrong-length-requires
-    first-requires-7
-    wrong-sides-requires
-    first-requires-8
+    (λ c κs. search needs)
+    (λ c κs. search needs)
+    (λ c κs. search needs)
+    (λ c κs. search needs)
+    (λ c κs. search needs)
+    (λ c κs. search needs)
+    (λ c κs. search needs)
+    (λ c κs. search needs)
+    (λ c κs. search needs)
+    (λ c κs. search needs)
     returns)
