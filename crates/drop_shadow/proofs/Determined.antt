@@ -5,8 +5,7 @@ use contract.Lifetimes.{Lfts}
 use borrow.Fn.Kinds.{Dens, endedOf}
 use denote.Triple.Clauses.{AtExit}
 use denote.Ref.{now}
-use Rattle.picture.specs.Answer.{Answer}
-use Rattle.drop_shadow.specs.Outcome.{Lent}
+use Rattle.picture.specs.Answer.{Answer, LentCopy}
 use Rattle.drop_shadow.proofs.shadow.Reads as shadow
 use Rattle.drop_shadow.proofs.shadow.Kinds as kinds
 
@@ -15,4 +14,4 @@ pub determined : (κs : Lfts 4) (a : Dens κs kinds.ps) (r₁ r₂ : ℕ) (x₁ 
     (r₁ ≡ r₂) × (now (x₁ .0) ≡ now (x₂ .0)) × (now (x₁ .1 .1 .1 .0) ≡ now (x₂ .1 .1 .1 .0)) × (now (x₁ .1 .1 .1 .1 .0) ≡ now (x₂ .1 .1 .1 .1 .0))
 determined κs a r₁ r₂ x₁ x₂ h₁ h₂ =
     let e = h₁ ∙ sym h₂ in
-    (ap (λ (o : Answer Lent). o .number) e, ap (λ (o : Answer Lent). o .left .picture) e, ap (λ (o : Answer Lent). o .left .scratch) e, ap (λ (o : Answer Lent). o .left .copy) e)
+    (ap (λ (o : Answer LentCopy). o .number) e, ap (λ (o : Answer LentCopy). o .left .picture) e, ap (λ (o : Answer LentCopy). o .left .scratch) e, ap (λ (o : Answer LentCopy). o .left .copy) e)
