@@ -9,7 +9,7 @@ use denote.Ref.{now}
 use Rattle.picture.specs.Answer.{answered}
 use Rattle.gaussian_blur.specs.Outcome as blurring
 use Rattle.drop_shadow.specs.Outcome as shadowing
-use Rattle.plate.specs.Job as job
+use Rattle.job.specs.Job as job
 use Rattle.corbelrush.specs.Words.{pointers, pictureIn}
 use Rattle.corbelrush.proofs.filters.corbelrush_blur.Reads as blur
 use Rattle.corbelrush.proofs.filters.corbelrush_blur.Kinds as blur-kinds

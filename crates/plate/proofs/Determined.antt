@@ -1,4 +1,4 @@
--- Whatever the contracts of a lookup and of the job allow of one call is one answer, one part of the file, one outcome.
+-- Whatever the contracts of a lookup allow of one call is one answer, and one part of the file.
 use mathlib.Core.Path.{_≡_, refl, _∙_, sym, ap}
 use mathlib.Core.List.{List}
 use Prim.Native.Nat.{ℕ}
@@ -6,21 +6,18 @@ use native.Mathlib.Omega.{arith}
 use contract.Lifetimes.{Lfts}
 use borrow.Fn.Kinds.{Dens, endedOf}
 use denote.Triple.Clauses.{AtExit}
-use denote.Ref.{RefT, now}
+use denote.Ref.{RefT}
 use Rattle.picture.specs.Answer.{Answer}
 use Rattle.picture.specs.Sizes.{fullSize}
 use Rattle.plate.specs.Lookup.{Picture, answers, numberOf, partOf, stretchIn}
-use Rattle.plate.specs.Job.{Lent}
-use Rattle.plate.specs.declared.lookup.Refusal.{Refusal}
-use Rattle.plate.specs.declared.lookup.Refusal.the-variants.{BrokenPlate, NoPicture}
-use Rattle.plate.specs.declared.lookup.Lookup.{Lookup}
-use Rattle.plate.specs.declared.lookup.Lookup.the-variants.{Refused, Found}
-use Rattle.plate.proofs.lookup.find_picture.Reads as find
-use Rattle.plate.proofs.lookup.find_picture.Kinds as find-kinds
-use Rattle.plate.proofs.lookup.plate_picture.Reads as part
-use Rattle.plate.proofs.lookup.plate_picture.Kinds as part-kinds
-use Rattle.plate.proofs.job.plate_job.Reads as job
-use Rattle.plate.proofs.job.plate_job.Kinds as job-kinds
+use Rattle.plate.specs.declared.Refusal.{Refusal}
+use Rattle.plate.specs.declared.Refusal.the-variants.{BrokenPlate, NoPicture}
+use Rattle.plate.specs.declared.Lookup.{Lookup}
+use Rattle.plate.specs.declared.Lookup.the-variants.{Refused, Found}
+use Rattle.plate.proofs.find_picture.Reads as find
+use Rattle.plate.proofs.find_picture.Kinds as find-kinds
+use Rattle.plate.proofs.plate_picture.Reads as part
+use Rattle.plate.proofs.plate_picture.Kinds as part-kinds
 
 same-refusal : (a b : Refusal) → numberOf a ≡ numberOf b → a ≡ b
 same-refusal BrokenPlate BrokenPlate e = refl
@@ -49,9 +46,3 @@ find-determined κs a r₁ r₂ x₁ x₂ h₁ h₂ = answers-once r₁ r₂ (h�
 pub part-determined : (κs : Lfts 1) (a : Dens κs part-kinds.ps) (r₁ r₂ : RefT (List ℕ)) (x₁ x₂ : AtExit (endedOf 1 part-kinds.ps part-kinds.r) κs) →
     part.Post κs a r₁ x₁ → part.Post κs a r₂ x₂ → partOf r₁ ≡ partOf r₂
 part-determined κs a r₁ r₂ x₁ x₂ h₁ h₂ = h₁ ∙ sym h₂
-
-pub job-determined : (κs : Lfts 2) (a : Dens κs job-kinds.ps) (r₁ r₂ : ℕ) (x₁ x₂ : AtExit (endedOf 2 job-kinds.ps job-kinds.r) κs) →
-    job.Post κs a r₁ x₁ → job.Post κs a r₂ x₂ → (r₁ ≡ r₂) × (now (x₁ .0) ≡ now (x₂ .0)) × (now (x₁ .1 .0) ≡ now (x₂ .1 .0))
-job-determined κs a r₁ r₂ x₁ x₂ h₁ h₂ =
-    let e = h₁ ∙ sym h₂ in
-    (ap (λ (o : Answer Lent). o .number) e, ap (λ (o : Answer Lent). o .left .plate) e, ap (λ (o : Answer Lent). o .left .scratch) e)

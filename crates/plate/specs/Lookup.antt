@@ -8,11 +8,11 @@ use denote.Ref.{RefT, ptr, now}
 use Rattle.picture.specs.Answer.{Answer, answered, settled}
 use Rattle.picture.specs.Refusal.{Check, check, firstOf}
 use Rattle.plate_format.specs.Format.{count, entryOf, bodyOffset, isPlate}
-use Rattle.plate.specs.declared.lookup.Refusal.{Refusal}
-use Rattle.plate.specs.declared.lookup.Refusal.the-variants.{BrokenPlate, NoPicture}
-use Rattle.plate.specs.declared.lookup.Stretch.{Stretch}
-use Rattle.plate.specs.declared.lookup.Lookup.{Lookup}
-use Rattle.plate.specs.declared.lookup.Lookup.the-variants.{Refused, Found}
+use Rattle.plate.specs.declared.Refusal.{Refusal}
+use Rattle.plate.specs.declared.Refusal.the-variants.{BrokenPlate, NoPicture}
+use Rattle.plate.specs.declared.Stretch.{Stretch}
+use Rattle.plate.specs.declared.Lookup.{Lookup}
+use Rattle.plate.specs.declared.Lookup.the-variants.{Refused, Found}
 
 -- the values beside the number: the sides, and the stretch of the file
 pub record Picture : Type 0 where

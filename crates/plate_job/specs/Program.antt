@@ -6,7 +6,7 @@ use lib.Dec.{leb}
 use lib.ListN.{length}
 use Rattle.picture.specs.Answer.{Answer, settled}
 use Rattle.plate_format.specs.Format.{isPlate}
-use Rattle.plate.specs.Job.{plateBlur, jobbed}
+use Rattle.job.specs.Job.{plateBlur, jobbed}
 
 -- the most bytes that the program takes
 abbrev pub longestInput : ℕ
