@@ -16,14 +16,14 @@ use Rattle.gaussian_blur.specs.Blurred.{blurredPlane, blurred}
 use Rattle.gaussian_blur.specs.Outcome.{blurChecks, blurredOrKept, outcome}
 use Rattle.gaussian_blur.specs.Outcome as blur
 use Rattle.job.specs.Job.{plateWeights, plateBlur, lent}
-use Rattle.job.specs.Steps.{Fits}
+use Rattle.job.specs.Steps.{BodyFits}
 use Rattle.job.proofs.After.{Keeps}
 
 pub keeps : Keeps plateBlur
 unfolding plateBlur blurredOrKept blurred lt
 keeps w h body = length-painted w h (λ k. blurredPlane Duplicate plateWeights 1 w h (chan body w k))
 
-module _ (w h : ℕ) (part scratch : List ℕ) (f : Fits w h part scratch) where
+module _ (w h : ℕ) (part scratch : List ℕ) (f : BodyFits w h part scratch) where
   accepted : firstOf (blurChecks (length part) w h (length scratch) plateWeights 1 one32 0) ≡ 0
   unfolding firstOf zeroOrAbove wrongLength tooShort maxTaps wrongTaps maxDecimations tooDeep wrongEdge finite outsideUnit anyOf anyOutside lt isNan
   accepted = rw (f .sides, eq-eqb (length part) (bytesOf w h) (f .exact), le-ltb (length scratch) (bytesOf w h) (f .room))

@@ -10,13 +10,13 @@ use Rattle.picture.specs.Planes.{bytesOf, cleared}
 use Rattle.plate_format.specs.Format.{entryOf}
 use Rattle.plate_format.specs.declared.Entry.{Entry}
 use Rattle.job.specs.Job.{BodyBlur, Lent, lent}
-use Rattle.job.specs.Steps.{Fits, withBody, Ready, Blurred}
+use Rattle.job.specs.Steps.{BodyFits, withBody, BodyReady, Blurred}
 
-module _ (file : List ℕ) (i start : ℕ) (scratch : List ℕ) (ready : Ready file i start scratch) (e : Entry) (is : e ≡ entryOf file i) where
+module _ (file : List ℕ) (i start : ℕ) (scratch : List ℕ) (ready : BodyReady file i start scratch) (e : Entry) (is : e ≡ entryOf file i) where
   pub inside : start + e .length ≤ length file
   inside = rw is (ready .inside)
 
-  pub part-fits : Fits (e .width) (e .height) (take (start + e .length - start) (drop start file)) scratch
+  pub part-fits : BodyFits (e .width) (e .height) (take (start + e .length - start) (drop start file)) scratch
   part-fits =
       record {
         sides = rw is (ready .sides);

@@ -15,13 +15,13 @@ abbrev pub withBody : List ℕ → ℕ → ℕ → List ℕ → List ℕ
 withBody file start len bytes = take start file ++ (bytes ++ drop len (drop start file))
 
 -- the bytes of a picture of w by h pixels, and a scratch with room for them
-pub record Fits (w h : ℕ) (part scratch : List ℕ) : Type 0 where
+pub record BodyFits (w h : ℕ) (part scratch : List ℕ) : Type 0 where
   pub sides : wrongSides w h ≡ false
   pub exact : length part ≡ bytesOf w h
   pub room : bytesOf w h ≤ length scratch
 
 -- body i starts here: it lies within the file, and the scratch has room for it
-pub record Ready (file : List ℕ) (i start : ℕ) (scratch : List ℕ) : Type 0 where
+pub record BodyReady (file : List ℕ) (i start : ℕ) (scratch : List ℕ) : Type 0 where
   pub tabled : Tabled file
   pub there : i < count file
   pub sides : wrongSides (entryOf file i .width) (entryOf file i .height) ≡ false

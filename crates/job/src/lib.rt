@@ -12,11 +12,11 @@ ghost use Rattle.picture.specs.Planes.{bytesOf, cleared};
 ghost use Rattle.picture.specs.Answer.{answered};
 ghost use Rattle.plate_format.specs.Format.{isPlate};
 ghost use Rattle.job.specs.Job.{longestBody, plateBlur, jobbed, lent, jobOutcome};
-ghost use Rattle.job.specs.Steps.{Fits, Ready, Blurred};
+ghost use Rattle.job.specs.Steps.{BodyFits, BodyReady, Blurred};
 
 // The blur of the job: weights 1/4, 1/2, 1/4, n = 1, Duplicate, strength 1.
 fn blur_part(part: &mut [u8], w: u32, h: u32, scratch: &mut [u8])
-    requires { ⌜ Fits w h (now part) (now scratch) ⌝ }
+    requires { ⌜ BodyFits w h (now part) (now scratch) ⌝ }
     ensures { λ _. ⌜ lent (now (part .exit)) (now (scratch .exit)) ≡ lent (plateBlur w h (now (part .entry))) (cleared (bytesOf w h) (now (scratch .entry))) ⌝ }
 {
     let weights = [0.25, 0.5, 0.25];
@@ -25,7 +25,7 @@ fn blur_part(part: &mut [u8], w: u32, h: u32, scratch: &mut [u8])
 
 // Blurs body i where it lies, from this start on, and answers where it ends.
 fn blur_body(plate: &mut [u8], i: usize, start: usize, scratch: &mut [u8]) -> usize
-    requires { ⌜ Ready (now plate) i start (now scratch) ⌝ }
+    requires { ⌜ BodyReady (now plate) i start (now scratch) ⌝ }
     ensures { λ r. ⌜ Blurred plateBlur (now (plate .entry)) i start (now (scratch .entry)) r (now (plate .exit)) (now (scratch .exit)) ⌝ }
 {
     let e = plate_format::read_entry(plate, i);

@@ -9,7 +9,7 @@ use denote.Triple.Clauses.{AtExit}
 use denote.Ref.{RefT}
 use Rattle.picture.specs.Answer.{Answer}
 use Rattle.picture.specs.Sizes.{fullSize}
-use Rattle.plate.specs.Lookup.{Picture, answers, numberOf, partOf, stretchIn}
+use Rattle.plate.specs.Lookup.{Picture, answers, lookupNumber, partOf, stretchIn}
 use Rattle.plate.specs.declared.Refusal.{Refusal}
 use Rattle.plate.specs.declared.Refusal.the-variants.{BrokenPlate, NoPicture}
 use Rattle.plate.specs.declared.Lookup.{Lookup}
@@ -19,13 +19,13 @@ use Rattle.plate.proofs.find_picture.Kinds as find-kinds
 use Rattle.plate.proofs.plate_picture.Reads as part
 use Rattle.plate.proofs.plate_picture.Kinds as part-kinds
 
-same-refusal : (a b : Refusal) → numberOf a ≡ numberOf b → a ≡ b
+same-refusal : (a b : Refusal) → lookupNumber a ≡ lookupNumber b → a ≡ b
 same-refusal BrokenPlate BrokenPlate e = refl
 same-refusal BrokenPlate NoPicture e = absurd (omega arith)
 same-refusal NoPicture BrokenPlate e = absurd (omega arith)
 same-refusal NoPicture NoPicture e = refl
 
-not-done : (r : Refusal) → numberOf r ≡ 0 → ⊥
+not-done : (r : Refusal) → lookupNumber r ≡ 0 → ⊥
 not-done BrokenPlate e = omega arith
 not-done NoPicture e = omega arith
 

@@ -44,13 +44,13 @@ unfoldable pub lookedUp : List ℕ → ℕ → Answer Picture
 lookedUp file index = settled (firstOf (lookupChecks file index)) nothing (pictureOf file index)
 
 -- the number of each refusal
-abbrev pub numberOf : Refusal → ℕ
-numberOf BrokenPlate = 10
-numberOf NoPicture = 12
+abbrev pub lookupNumber : Refusal → ℕ
+lookupNumber BrokenPlate = 10
+lookupNumber NoPicture = 12
 
 -- the number and the values of each case of the answer
 abbrev pub answers : Lookup → Answer Picture
-answers (Refused r) = answered (numberOf r) nothing
+answers (Refused r) = answered (lookupNumber r) nothing
 answers (Found size s) = answered 0 (record { width = size .w; height = size .h; offset = s .offset; length = s .length })
 
 abbrev pub stretchIn : Picture → Stretch
