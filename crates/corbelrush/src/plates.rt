@@ -1,9 +1,9 @@
 // The plate file for C.
 use plate::Lookup;
 ghost use mathlib.Core.Path.{_≡_};
-ghost use Rattle.picture.specs.Answer.{answered};
+ghost use Rattle.picture.specs.Answer.{answered, lent};
 ghost use Rattle.plate.specs.Lookup.{lookedUp};
-ghost use Rattle.job.specs.Job.{lent, plateBlur, jobOutcome};
+ghost use Rattle.job.specs.Job.{plateBlur, jobOutcome};
 ghost use Rattle.corbelrush.specs.Words.{pictureIn};
 
 // The sides of the picture of that index, and where it lies.

@@ -8,10 +8,10 @@ ghost use lib.ListN.{length};
 ghost use Rattle.picture.specs.Planes.{bytesOf, cleared};
 ghost use Rattle.picture.specs.Sizes.{levelZero, levelBytes};
 ghost use Rattle.picture.specs.Refusal.{firstOf};
-ghost use Rattle.picture.specs.Answer.{answered};
+ghost use Rattle.picture.specs.Answer.{answered, lent};
 ghost use Rattle.gaussian_blur.specs.Blurred.{blurred};
 ghost use Rattle.gaussian_blur.specs.Needs.{Ready, Accepted};
-ghost use Rattle.gaussian_blur.specs.Outcome.{blurChecks, blurredOrKept, lent, outcome};
+ghost use Rattle.gaussian_blur.specs.Outcome.{blurChecks, blurredOrKept, outcome};
 
 // Halves, blurs with one decimation fewer, and doubles; with none left it convolves.
 pub fn apply_blur(

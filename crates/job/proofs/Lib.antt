@@ -6,4 +6,4 @@ pub mod Cleared
 pub mod After
 pub mod Turns
 pub mod Fixed
-pub mod Lent
+pub mod Body

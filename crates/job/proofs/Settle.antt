@@ -7,10 +7,10 @@ use native.Mathlib.Omega.{arith}
 use lib.ListN.{length}
 use borrow.Author.Tests.{lt-ltb, le-ltb}
 use Rattle.picture.specs.Planes.{cleared}
-use Rattle.picture.specs.Answer.{Answer, answered, settled}
+use Rattle.picture.specs.Answer.{Answer, answered, Lent, lent, settled}
 use Rattle.picture.specs.Refusal.{firstOf}
 use Rattle.plate_format.specs.Format.{count, isPlate}
-use Rattle.job.specs.Job.{BodyBlur, longestBody, jobbed, Lent, lent, jobOutcome}
+use Rattle.job.specs.Job.{BodyBlur, longestBody, jobbed, jobOutcome}
 use Rattle.job.proofs.Lengths.{longest-inside}
 
 module _ (blur : BodyBlur) (file scratch : List ℕ) where
@@ -29,13 +29,13 @@ module _ (blur : BodyBlur) (file scratch : List ℕ) where
 
   -- a scratch as long as the file has room for any body: then 10 is the one refusal
   module _ (long : length file ≤ length scratch) {r : ℕ} {left : Lent} (e : answered r left ≡ jobOutcome blur file scratch) where
-    on-file : {a : Answer Lent} → a ≡ jobOutcome blur file scratch → answered r (left .plate) ≡ answered (a .number) (a .left .plate)
-    on-file f = ap (λ (o : Answer Lent). answered (o .number) (o .left .plate)) (e ∙ sym f)
+    on-file : {a : Answer Lent} → a ≡ jobOutcome blur file scratch → answered r (left .picture) ≡ answered (a .number) (a .left .picture)
+    on-file f = ap (λ (o : Answer Lent). answered (o .number) (o .left .picture)) (e ∙ sym f)
 
-    pub job-roomy : answered r (left .plate) ≡ settled (cond (isPlate file) 0 10) file (jobbed blur file)
+    pub job-roomy : answered r (left .picture) ≡ settled (cond (isPlate file) 0 10) file (jobbed blur file)
     unfolding settled
     job-roomy = by-plate (isPlate file) refl
       where
-        by-plate : (b : Bool) → isPlate file ≡ b → answered r (left .plate) ≡ settled (cond b 0 10) file (jobbed blur file)
+        by-plate : (b : Bool) → isPlate file ≡ b → answered r (left .picture) ≡ settled (cond b 0 10) file (jobbed blur file)
         by-plate false p = on-file (job-broken p)
         by-plate true p = on-file (job-done p (omega (arith, longest-inside file p (count file) (omega arith))))

@@ -7,9 +7,10 @@ use native.Mathlib.Numerals.{add-one}
 use native.Mathlib.Omega.{arith}
 use lib.ListN.{length}
 use Rattle.picture.specs.Planes.{cleared}
+use Rattle.picture.specs.Answer.{lent}
 use Rattle.plate_format.specs.Format.{count, entryOf, bodyOffset, isPlate}
 use Rattle.plate_format.proofs.Rules.{plate-entry}
-use Rattle.job.specs.Job.{BodyBlur, longestBelow, longestBody, jobbed, lent}
+use Rattle.job.specs.Job.{BodyBlur, longestBelow, longestBody, jobbed}
 use Rattle.job.specs.Steps.{BodyReady, Blurred}
 use Rattle.job.proofs.Lengths.{longest-up}
 use Rattle.job.proofs.Cleared.{length-cleared, cleared-twice}

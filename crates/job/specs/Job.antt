@@ -7,7 +7,7 @@ use lib.IntN.{negsuc}
 use lib.Ieee.{Float, fin}
 use lib.ListN.{length, take, drop}
 use Rattle.picture.specs.Planes.{cleared}
-use Rattle.picture.specs.Answer.{Answer, settled}
+use Rattle.picture.specs.Answer.{Answer, Lent, lent, settled}
 use Rattle.picture.specs.Refusal.{Check, check, firstOf}
 use Rattle.picture.specs.declared.EdgeMode.the-variants.{Duplicate}
 use Rattle.binary32.specs.Ranges.{one32}
@@ -18,10 +18,11 @@ use Rattle.plate_format.specs.Format.{count, entryOf, bodyOffset, isPlate}
 abbrev pub BodyBlur : Type 0
 BodyBlur = ℕ → ℕ → List ℕ → List ℕ
 
--- the blur of the job: weights 1/4, 1/2, 1/4, n = 1, Duplicate, strength 1
+-- the weights of the job's blur: 1/4, 1/2, 1/4
 abbrev pub plateWeights : List Float
 plateWeights = fin false 1 (negsuc 1) ∷ fin false 1 (negsuc 0) ∷ fin false 1 (negsuc 1) ∷ []
 
+-- the blur of the job: those weights, n = 1, Duplicate, strength 1
 unfoldable pub plateBlur : BodyBlur
 plateBlur w h body = blurredOrKept Duplicate plateWeights 1 one32 w h body
 
@@ -54,14 +55,6 @@ jobbed blur file = jobbedBelow blur file (count file)
 -- Plate job: 10, then 3
 abbrev pub jobChecks : List ℕ → List ℕ → List Check
 jobChecks file scratch = check 10 (not (isPlate file)) ∷ check 3 (ltb (length scratch) (longestBody file)) ∷ []
-
--- the lent buffers
-pub record Lent : Type 0 where
-  pub plate : List ℕ
-  pub scratch : List ℕ
-
-abbrev pub lent : List ℕ → List ℕ → Lent
-lent p s = record { plate = p; scratch = s }
 
 -- the first refusal; or every body blurred, and the scratch zero where it was used
 unfoldable pub jobOutcome : BodyBlur → List ℕ → List ℕ → Answer Lent

@@ -9,12 +9,12 @@ ghost use mathlib.Core.Bool.{true};
 ghost use Prim.Native.Nat.{_≤_};
 ghost use lib.ListN.{length};
 ghost use Rattle.picture.specs.Planes.{bytesOf, cleared};
-ghost use Rattle.picture.specs.Answer.{answered};
+ghost use Rattle.picture.specs.Answer.{answered, lent};
 ghost use Rattle.plate_format.specs.Format.{isPlate};
-ghost use Rattle.job.specs.Job.{longestBody, plateBlur, jobbed, lent, jobOutcome};
+ghost use Rattle.job.specs.Job.{longestBody, plateBlur, jobbed, jobOutcome};
 ghost use Rattle.job.specs.Steps.{BodyFits, BodyReady, Blurred};
 
-// The blur of the job: weights 1/4, 1/2, 1/4, n = 1, Duplicate, strength 1.
+// Blurs one body, lent by itself, as the job does: weights 1/4, 1/2, 1/4, n = 1, strength 1, edge 0 (Duplicate).
 fn blur_part(part: &mut [u8], w: u32, h: u32, scratch: &mut [u8])
     requires { ⌜ BodyFits w h (now part) (now scratch) ⌝ }
     ensures { λ _. ⌜ lent (now (part .exit)) (now (scratch .exit)) ≡ lent (plateBlur w h (now (part .entry))) (cleared (bytesOf w h) (now (scratch .entry))) ⌝ }
@@ -39,7 +39,7 @@ fn blur_body(plate: &mut [u8], i: usize, start: usize, scratch: &mut [u8]) -> us
     end
 }
 
-// Blurs every body, one after the other, by the running offset.
+// Blurs every body in table order: there are no gaps, so each starts where the one before it ends.
 fn blur_bodies(plate: &mut [u8], scratch: &mut [u8])
     requires { ⌜ (isPlate (now plate) ≡ true) × (longestBody (now plate) ≤ length (now scratch)) ⌝ }
     ensures { λ _. ⌜ lent (now (plate .exit)) (now (scratch .exit)) ≡ lent (jobbed plateBlur (now (plate .entry))) (cleared (longestBody (now (plate .entry))) (now (scratch .entry))) ⌝ }

@@ -4,6 +4,7 @@ ghost use Prim.Native.Nat.{max};
 ghost use Rattle.plate_format.specs.Needs.{Tabled};
 ghost use Rattle.job.specs.Job.{longestBody};
 
+// The larger of two lengths.
 fn larger(a: usize, b: usize) -> usize
     ensures { λ r. ⌜ r ≡ max a b ⌝ }
 {

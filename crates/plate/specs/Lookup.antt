@@ -7,6 +7,7 @@ use lib.ListN.{take, drop}
 use denote.Ref.{RefT, ptr, now}
 use Rattle.picture.specs.Answer.{Answer, answered, settled}
 use Rattle.picture.specs.Refusal.{Check, check, firstOf}
+use Rattle.picture.specs.Slice.{SlicePart}
 use Rattle.plate_format.specs.Format.{count, entryOf, bodyOffset, isPlate}
 use Rattle.plate.specs.declared.Refusal.{Refusal}
 use Rattle.plate.specs.declared.Refusal.the-variants.{BrokenPlate, NoPicture}
@@ -53,18 +54,10 @@ abbrev pub answers : Lookup → Answer Picture
 answers (Refused r) = answered (lookupNumber r) nothing
 answers (Found size s) = answered 0 (record { width = size .w; height = size .h; offset = s .offset; length = s .length })
 
+-- the stretch among those values
 abbrev pub stretchIn : Picture → Stretch
 stretchIn p = record { offset = p .offset; length = p .length }
 
--- a lent part: the block of memory it lies in, where it starts there, and its bytes
-pub record Part : Type 0 where
-  pub block : ℕ
-  pub start : ℕ
-  pub bytes : List ℕ
-
-abbrev pub partOf : RefT (List ℕ) → Part
-partOf r = record { block = ptr r .0; start = ptr r .1; bytes = now r }
-
 -- that stretch of the caller's own file: offset bytes after the file's own start, and length bytes long
-abbrev pub stretchOf : RefT (List ℕ) → Picture → Part
+abbrev pub stretchOf : RefT (List ℕ) → Picture → SlicePart
 stretchOf file p = record { block = ptr file .0; start = ptr file .1 + p .offset; bytes = take (p .length) (drop (p .offset) (now file)) }

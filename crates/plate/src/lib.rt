@@ -3,7 +3,8 @@ use picture::BROKEN_PLATE;
 use picture::FullSize;
 use picture::NO_PICTURE;
 ghost use mathlib.Core.Path.{_≡_};
-ghost use Rattle.plate.specs.Lookup.{answers, lookedUp, stretchIn, partOf, stretchOf};
+ghost use Rattle.picture.specs.Slice.{slicePart};
+ghost use Rattle.plate.specs.Lookup.{answers, lookedUp, stretchIn, stretchOf};
 
 // Why a picture of a plate is refused.
 pub enum Refusal {
@@ -24,7 +25,7 @@ pub enum Lookup {
 }
 
 impl Lookup {
-    // The number: 0 where the picture is there.
+    // The number of an answer: its refusal's, or 0 where the picture is there.
     pub fn number(self) -> u32
         ensures { λ r. ⌜ r ≡ answers self .number ⌝ }
     {
@@ -40,8 +41,8 @@ impl Lookup {
         }
     }
 
-    // The stretch, empty where the picture is refused.
-    pub fn stretch(self) -> Stretch
+    // The stretch of an answer: an empty one where the picture is refused.
+    fn stretch(self) -> Stretch
         ensures { λ r. ⌜ r ≡ stretchIn (answers self .left) ⌝ }
     {
         match self {
@@ -75,9 +76,9 @@ pub fn find_picture(plate: &[u8], index: u32) -> Lookup
     }
 }
 
-// That picture as a part of the caller's own file; refused, an empty part.
+// The picture of that index as a part of the caller's own file: an empty part where it is refused.
 pub fn plate_picture(plate: &[u8], index: u32) -> &[u8]
-    ensures { λ r. ⌜ partOf r ≡ stretchOf (plate .entry) (lookedUp (now (plate .entry)) index .left) ⌝ }
+    ensures { λ r. ⌜ slicePart r ≡ stretchOf (plate .entry) (lookedUp (now (plate .entry)) index .left) ⌝ }
 {
     let s = find_picture(plate, index).stretch();
     let a = s.offset;

@@ -1,7 +1,7 @@
 -- The part lent to the blur is the body, and comes back in its place.
 use borrow.Author.Needs.{needs}
 use Rattle.job.specs.Job.{plateBlur}
-use Rattle.job.proofs.Lent.{inside, part-fits, part-back}
+use Rattle.job.proofs.Body.{inside, part-fits, part-back}
 use Rattle.job.proofs.blur_body.Statement.{statement}
 use Rattle.job.proofs.blur_body.Tie as tie
 

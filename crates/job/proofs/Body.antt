@@ -7,9 +7,10 @@ use native.Mathlib.Omega.{arith}
 use lib.ListN.{length, take, drop, length-drop}
 use lib.Seq.{length-take-le}
 use Rattle.picture.specs.Planes.{bytesOf, cleared}
+use Rattle.picture.specs.Answer.{Lent, lent}
 use Rattle.plate_format.specs.Format.{entryOf}
 use Rattle.plate_format.specs.declared.Entry.{Entry}
-use Rattle.job.specs.Job.{BodyBlur, Lent, lent}
+use Rattle.job.specs.Job.{BodyBlur}
 use Rattle.job.specs.Steps.{BodyFits, withBody, BodyReady, Blurred}
 
 module _ (file : List ℕ) (i start : ℕ) (scratch : List ℕ) (ready : BodyReady file i start scratch) (e : Entry) (is : e ≡ entryOf file i) where
@@ -30,6 +31,6 @@ module _ (file : List ℕ) (i start : ℕ) (scratch : List ℕ) (ready : BodyRea
   part-back blur came =
       record {
         follows = rw is;
-        body = rw (ap (λ (l : Lent). l .plate) came, add-sub-cancel-left start (e .length), is);
+        body = rw (ap (λ (l : Lent). l .picture) came, add-sub-cancel-left start (e .length), is);
         zeros = ap (λ (l : Lent). l .scratch) came ∙ rw (is, ← ready .long);
       }
