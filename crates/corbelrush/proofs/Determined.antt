@@ -6,10 +6,8 @@ use contract.Lifetimes.{Lfts}
 use borrow.Fn.Kinds.{PK, RK, Out, Dens, resT, endedOf}
 use denote.Triple.Clauses.{AtExit}
 use denote.Ref.{now}
-use Rattle.picture.specs.Answer.{answered}
-use Rattle.gaussian_blur.specs.Outcome as blurring
+use Rattle.picture.specs.Answer.{answered, lent}
 use Rattle.drop_shadow.specs.Outcome as shadowing
-use Rattle.plate.specs.Job as job
 use Rattle.corbelrush.specs.Words.{pointers, pictureIn}
 use Rattle.corbelrush.proofs.filters.corbelrush_blur.Reads as blur
 use Rattle.corbelrush.proofs.filters.corbelrush_blur.Kinds as blur-kinds
@@ -35,7 +33,7 @@ module _ {n : ℕ} (ps : List (PK n)) (r : RK n) (Post : Out n ps r) {B : Type 0
   abbrev Determined : Type 0
   Determined = (κs : Lfts n) (a : Dens κs ps) (r₁ r₂ : resT r κs .Denot) (x₁ x₂ : AtExit (endedOf n ps r) κs) → Post κs a r₁ x₁ → Post κs a r₂ x₂ → seen κs r₁ x₁ ≡ seen κs r₂ x₂
 
-pub blur-determined : Determined blur-kinds.ps blur-kinds.r blur.Post (λ κs r x. answered r (blurring.lent (now (x .0)) (now (x .1 .1 .1 .0))))
+pub blur-determined : Determined blur-kinds.ps blur-kinds.r blur.Post (λ κs r x. answered r (lent (now (x .0)) (now (x .1 .1 .1 .0))))
 blur-determined κs a r₁ r₂ x₁ x₂ h₁ h₂ = h₁ ∙ sym h₂
 
 pub shift-determined : Determined shift-kinds.ps shift-kinds.r shift.Post (λ κs r x. answered r (now (x .0)))
@@ -59,5 +57,5 @@ spread-determined κs a r₁ r₂ x₁ x₂ h₁ h₂ = h₁ ∙ sym h₂
 pub plate-picture-determined : Determined plate-picture-kinds.ps plate-picture-kinds.r plate-picture.Post (λ κs r x. answered r (pictureIn (now (x .1 .1 .0)) (now (x .1 .1 .1 .0)) (now (x .1 .1 .1 .1 .0)) (now (x .1 .1 .1 .1 .1 .0))))
 plate-picture-determined κs a r₁ r₂ x₁ x₂ h₁ h₂ = h₁ ∙ sym h₂
 
-pub plate-job-determined : Determined plate-job-kinds.ps plate-job-kinds.r plate-job.Post (λ κs r x. answered r (job.lent (now (x .0)) (now (x .1 .0))))
+pub plate-job-determined : Determined plate-job-kinds.ps plate-job-kinds.r plate-job.Post (λ κs r x. answered r (lent (now (x .0)) (now (x .1 .0))))
 plate-job-determined κs a r₁ r₂ x₁ x₂ h₁ h₂ = h₁ ∙ sym h₂

@@ -1,7 +1,7 @@
 // Blur, shift and shadow for C.
 use drop_shadow::Recipe;
 ghost use mathlib.Core.Path.{_≡_};
-ghost use Rattle.picture.specs.Answer.{answered};
+ghost use Rattle.picture.specs.Answer.{answered, lent};
 ghost use Rattle.gaussian_blur.specs.Outcome as blurring;
 ghost use Rattle.shift.specs.Outcome as shifting;
 ghost use Rattle.drop_shadow.specs.Outcome as shadowing;
@@ -19,7 +19,7 @@ pub extern "C" fn corbelrush_blur(
     strength: f32,
     edge: u32,
 ) -> u32
-    ensures { λ r. ⌜ answered r (blurring.lent (now (picture .exit)) (now (scratch .exit))) ≡ blurring.outcome (now (picture .entry)) w h (now (scratch .entry)) (now (weights .entry)) n strength edge ⌝ }
+    ensures { λ r. ⌜ answered r (lent (now (picture .exit)) (now (scratch .exit))) ≡ blurring.outcome (now (picture .entry)) w h (now (scratch .entry)) (now (weights .entry)) n strength edge ⌝ }
 {
     gaussian_blur::blur(picture, w, h, scratch, weights, n, strength, edge)
 }

@@ -1,9 +1,9 @@
 // The plate file for C.
-use plate::lookup::Lookup;
+use plate::Lookup;
 ghost use mathlib.Core.Path.{_≡_};
-ghost use Rattle.picture.specs.Answer.{answered};
+ghost use Rattle.picture.specs.Answer.{answered, lent};
 ghost use Rattle.plate.specs.Lookup.{lookedUp};
-ghost use Rattle.plate.specs.Job.{lent, plateBlur, jobOutcome};
+ghost use Rattle.job.specs.Job.{plateBlur, jobOutcome};
 ghost use Rattle.corbelrush.specs.Words.{pictureIn};
 
 // The sides of the picture of that index, and where it lies.
@@ -22,7 +22,7 @@ pub extern "C" fn corbelrush_plate_picture(
     *h = 0;
     *offset = 0;
     *length = 0;
-    let found = plate::lookup::find_picture(plate, index);
+    let found = plate::find_picture(plate, index);
     match found {
         Lookup::Refused(_) => found.number(),
         Lookup::Found { size, stretch } => {
@@ -41,5 +41,5 @@ pub extern "C" fn corbelrush_plate_picture(
 pub extern "C" fn corbelrush_plate_job(plate: &mut [u8], scratch: &mut [u8]) -> u32
     ensures { λ r. ⌜ answered r (lent (now (plate .exit)) (now (scratch .exit))) ≡ jobOutcome plateBlur (now (plate .entry)) (now (scratch .entry)) ⌝ }
 {
-    plate::job::plate_job(plate, scratch)
+    job::plate_job(plate, scratch)
 }

@@ -4,10 +4,11 @@ use mathlib.Core.List.{List}
 use Prim.Native.Nat.{ℕ}
 use Rattle.picture.specs.Planes.{chan}
 use Rattle.picture.specs.Modes.{modeOf}
+use Rattle.picture.specs.Answer.{Lent}
 use Rattle.picture.proofs.Answers.{accepted}
 use Rattle.binary32.specs.Grid.{numerators}
 use Rattle.gaussian_blur.specs.Blurred.{blurred}
-use Rattle.gaussian_blur.specs.Outcome.{Lent, blurredOrKept, outcome}
+use Rattle.gaussian_blur.specs.Outcome.{blurredOrKept, outcome}
 use Rattle.exact_blur.specs.Exact.{exactBlur}
 use Rattle.exact_blur.specs.Demand.{steps, Within, OfTheEntry}
 use Rattle.exact_blur.proofs.Near.{near-exact}

@@ -7,11 +7,11 @@ use lib.Ieee.{Float}
 use lib.ListN.{getD}
 use Rattle.picture.specs.Planes.{chan}
 use Rattle.picture.specs.Modes.{modeOf}
-use Rattle.picture.specs.Answer.{answered}
+use Rattle.picture.specs.Answer.{answered, lent}
 use Rattle.picture.specs.declared.EdgeMode.{EdgeMode}
 use Rattle.binary32.specs.Grid.{numerators, allOnGrid, sum}
 use Rattle.gaussian_blur.specs.Blurred.{blurred}
-use Rattle.gaussian_blur.specs.Outcome.{lent, aboveZero, outcome}
+use Rattle.gaussian_blur.specs.Outcome.{aboveZero, outcome}
 use Rattle.exact_blur.specs.Exact.{exactBlur, over}
 
 -- how many steps the blur with n decimations may be away

@@ -9,7 +9,7 @@ use Rattle.picture.specs.Planes.{bytesOf, cleared}
 use Rattle.picture.specs.Modes.{modeOf}
 use Rattle.picture.specs.declared.EdgeMode.{EdgeMode}
 use Rattle.picture.specs.Refusal.{Check, check, firstOf, pictureChecks, tooShort, wrongTaps, tooDeep, wrongEdge}
-use Rattle.picture.specs.Answer.{Answer, settled}
+use Rattle.picture.specs.Answer.{Answer, Lent, lent, settled}
 use Rattle.binary32.specs.Ranges.{finite, anyOutside}
 use Rattle.gaussian_blur.specs.Blurred.{blurred}
 
@@ -32,14 +32,6 @@ aboveZero strength = lt (fin false 0 (pos 0)) strength
 -- the picture of an accepted call: strength at or below zero leaves it as it is
 unfoldable pub blurredOrKept : EdgeMode → List Float → ℕ → Float → ℕ → ℕ → List ℕ → List ℕ
 blurredOrKept mode weights n strength w h bytes = cond (aboveZero strength) (blurred mode weights n w h bytes) bytes
-
--- the lent buffers
-pub record Lent : Type 0 where
-  pub picture : List ℕ
-  pub scratch : List ℕ
-
-abbrev pub lent : List ℕ → List ℕ → Lent
-lent p s = record { picture = p; scratch = s }
 
 -- the first refusal; or the picture blurred, and the scratch zero where it was used
 unfoldable pub blurOutcome : List ℕ → ℕ → ℕ → List ℕ → List Float → ℕ → Float → ℕ → Answer Lent

@@ -7,10 +7,10 @@ ghost use Prim.Native.Nat.{_≤_};
 ghost use lib.ListN.{length};
 ghost use Rattle.picture.specs.Planes.{bytesOf, cleared};
 ghost use Rattle.picture.specs.Refusal.{firstElse, firstOf};
-ghost use Rattle.picture.specs.Answer.{answered};
+ghost use Rattle.picture.specs.Answer.{answered, lent};
 ghost use Rattle.gaussian_blur.specs.Blurred.{blurred};
 ghost use Rattle.gaussian_blur.specs.Needs.{BlurReady, BlurAccepted};
-ghost use Rattle.gaussian_blur.specs.Outcome.{kernelChecks, blurChecks, blurredOrKept, lent, blurOutcome};
+ghost use Rattle.gaussian_blur.specs.Outcome.{kernelChecks, blurChecks, blurredOrKept, blurOutcome};
 
 // Halves, blurs with one decimation fewer, and doubles; with none left it convolves.
 fn apply_blur(

@@ -8,6 +8,7 @@ use lib.ListN.{length}
 use denote.Ref.{RefT, ptr, now}
 use Rattle.picture.specs.Modes.{modeOf}
 use Rattle.picture.specs.Refusal.{Check, check, firstOf, pictureChecks, wrongEdge}
+use Rattle.picture.specs.Slice.{SlicePart, slicePart}
 use Rattle.picture.specs.declared.Pixel.{Pixel}
 use Rattle.edges.specs.Whole.{placeOf}
 use Rattle.edges.specs.declared.At.{At}
@@ -47,27 +48,19 @@ Held bytes w Outside row = Unit
 unfoldable pub sampled : List ℕ → ℕ → ℕ → ℕ → ℤ → ℤ → Pixel
 sampled bytes w h edge x y = cond (accepts bytes w h edge) (sampledPixel bytes w (placeOf (modeOf edge) w x) (placeOf (modeOf edge) h y)) clear
 
--- a part of a slice: where it starts, and its bytes
-pub record Part : Type 0 where
-  pub start : ℕ × ℕ
-  pub bytes : List ℕ
-
-abbrev pub partOf : RefT (List ℕ) → Part
-partOf s = record { start = ptr s; bytes = now s }
-
 -- what a view holds: the caller's picture, its sides and the edge number
 pub record Seen : Type 0 where
-  pub part : Part
+  pub part : SlicePart
   pub w : ℕ
   pub h : ℕ
   pub edge : ℕ
 
 abbrev pub seen : View → Seen
-seen v = record { part = partOf (v .picture); w = v .w; h = v .h; edge = v .edge }
+seen v = record { part = slicePart (v .picture); w = v .w; h = v .h; edge = v .edge }
 
 -- the part and the sides of a view of a picture; a refused one is 0 by 0 over an empty part
-abbrev pub seenPart : RefT (List ℕ) → ℕ → ℕ → ℕ → Part
-seenPart picture w h edge = record { start = ptr picture; bytes = cond (accepts (now picture) w h edge) (now picture) [] }
+abbrev pub seenPart : RefT (List ℕ) → ℕ → ℕ → ℕ → SlicePart
+seenPart picture w h edge = record { block = ptr picture .0; start = ptr picture .1; bytes = cond (accepts (now picture) w h edge) (now picture) [] }
 
 abbrev pub seenSide : List ℕ → ℕ → ℕ → ℕ → ℕ → ℕ
 seenSide bytes w h edge side = cond (accepts bytes w h edge) side 0

@@ -1,6 +1,7 @@
 // The sampling view: a picture with its sizes and its edge rule, sampled at any two coordinates.
 ghost use mathlib.Core.Path.{_≡_};
-ghost use Rattle.grading.specs.Sampling.{viewRefusal, clear, Held, sampledPixel, sampled, partOf, seenPart, seenSide, seen, viewed};
+ghost use Rattle.picture.specs.Slice.{slicePart};
+ghost use Rattle.grading.specs.Sampling.{viewRefusal, clear, Held, sampledPixel, sampled, seenPart, seenSide, seen, viewed};
 use edges::At;
 use picture::FullSize;
 use picture::Pixel;
@@ -68,7 +69,7 @@ pub fn sample_at(picture: &[u8], w: u32, h: u32, edge: u32, x: i32, y: i32) -> P
 
 // The part that a view holds: all of the picture, or none of it where a check refuses.
 fn seen_part<'a>(picture: &'a [u8], w: u32, h: u32, edge: u32) -> &'a [u8]
-    ensures { λ r. ⌜ partOf r ≡ seenPart (picture .entry) w h edge ⌝ }
+    ensures { λ r. ⌜ slicePart r ≡ seenPart (picture .entry) w h edge ⌝ }
 {
     if view_refusal(picture, w, h, edge) != 0 {
         return &picture[..0];

@@ -11,7 +11,7 @@ use Rattle.picture.specs.Build.{build}
 use Rattle.picture.specs.Sizes.{maxSide}
 use Rattle.picture.specs.Modes.{modeOf}
 use Rattle.picture.specs.Refusal.{firstOf, zeroOrAbove, wrongSides, wrongLength, tooShort, maxTaps, wrongTaps, maxDecimations, tooDeep, wrongEdge}
-use Rattle.picture.specs.Answer.{Answer, settled}
+use Rattle.picture.specs.Answer.{Answer, Lent, settled}
 use Rattle.picture.specs.declared.EdgeMode.{EdgeMode}
 use Rattle.picture.specs.declared.EdgeMode.the-variants.{Duplicate, Wrap, Mirror, None}
 use Rattle.edges.specs.Edges.{valueAt, place, sample}
@@ -23,7 +23,7 @@ use Rattle.binary32.specs.Taps.{tap, taps}
 use Rattle.passes.specs.Passes.{halve, double, convolve}
 use Rattle.passes.specs.Blur.{blur}
 use Rattle.gaussian_blur.specs.Blurred.{blurred}
-use Rattle.gaussian_blur.specs.Outcome.{Lent, blurredOrKept, outcome}
+use Rattle.gaussian_blur.specs.Outcome.{blurredOrKept, outcome}
 use Rattle.shift.specs.Shift.{moved, shifted, shiftedPicture}
 use Rattle.shift.specs.Outcome.{wrongOffsets}
 use Rattle.shift.specs.Outcome as shift

@@ -11,6 +11,14 @@ pub record Answer (A : Type 0) : Type 0 where
 abbrev pub answered : {A : Type 0} → ℕ → A → Answer A
 answered r left = record { number = r; left = left }
 
+-- the lent buffers of an entry with one work buffer: what it works on, a picture or a plate file, and its scratch
+pub record Lent : Type 0 where
+  pub picture : List ℕ
+  pub scratch : List ℕ
+
+abbrev pub lent : List ℕ → List ℕ → Lent
+lent p s = record { picture = p; scratch = s }
+
 -- refused with its number, and everything as it was before; or done, with number 0
 unfoldable pub settled : {A : Type 0} → ℕ → A → A → Answer A
 settled refusal before after = cond (eqb refusal 0) (answered 0 after) (answered refusal before)

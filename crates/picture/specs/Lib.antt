@@ -1,4 +1,4 @@
--- The definitions that contracts cite of a picture: its sizes, its bytes, its edge rules and its refusals.
+-- The definitions that contracts cite of a picture: its sizes, its bytes, its edge rules, its refusals, and what a call leaves.
 pub mod Build
 pub mod Planes
 pub mod Buffers
@@ -6,3 +6,4 @@ pub mod Sizes
 pub mod Modes
 pub mod Refusal
 pub mod Answer
+pub mod Slice

@@ -1,57 +1,45 @@
--- Whatever the contracts of a lookup and of the job allow of one call is one answer, one part of the file, one outcome.
-use mathlib.Core.Path.{_≡_, refl, _∙_, sym, ap}
+-- Whatever the contracts of a lookup allow of one call is one answer, and one part of the file.
+use mathlib.Core.Path.{_≡_, refl, _∙_, sym}
+use mathlib.Core.Bool.{cond}
 use mathlib.Core.List.{List}
 use Prim.Native.Nat.{ℕ}
-use native.Mathlib.Omega.{arith}
+use lib.Dec.{eqb}
 use contract.Lifetimes.{Lfts}
 use borrow.Fn.Kinds.{Dens, endedOf}
 use denote.Triple.Clauses.{AtExit}
-use denote.Ref.{RefT, now}
+use denote.Ref.{RefT}
 use Rattle.picture.specs.Answer.{Answer}
 use Rattle.picture.specs.Sizes.{fullSize}
-use Rattle.plate.specs.Lookup.{Picture, answers, numberOf, partOf, stretchIn}
-use Rattle.plate.specs.Job.{Lent}
-use Rattle.plate.specs.declared.lookup.Refusal.{Refusal}
-use Rattle.plate.specs.declared.lookup.Refusal.the-variants.{BrokenPlate, NoPicture}
-use Rattle.plate.specs.declared.lookup.Lookup.{Lookup}
-use Rattle.plate.specs.declared.lookup.Lookup.the-variants.{Refused, Found}
-use Rattle.plate.proofs.lookup.find_picture.Reads as find
-use Rattle.plate.proofs.lookup.find_picture.Kinds as find-kinds
-use Rattle.plate.proofs.lookup.plate_picture.Reads as part
-use Rattle.plate.proofs.lookup.plate_picture.Kinds as part-kinds
-use Rattle.plate.proofs.job.plate_job.Reads as job
-use Rattle.plate.proofs.job.plate_job.Kinds as job-kinds
+use Rattle.picture.specs.Slice.{slicePart}
+use Rattle.picture.proofs.Answers.{undone}
+use Rattle.plate.specs.Lookup.{Picture, answers, stretchIn}
+use Rattle.plate.specs.declared.Refusal.the-variants.{BrokenPlate, NoPicture}
+use Rattle.plate.specs.declared.Lookup.{Lookup}
+use Rattle.plate.specs.declared.Lookup.the-variants.{Refused, Found}
+use Rattle.plate.proofs.find_picture.Reads as find
+use Rattle.plate.proofs.find_picture.Kinds as find-kinds
+use Rattle.plate.proofs.plate_picture.Reads as part
+use Rattle.plate.proofs.plate_picture.Kinds as part-kinds
 
-same-refusal : (a b : Refusal) → numberOf a ≡ numberOf b → a ≡ b
-same-refusal BrokenPlate BrokenPlate e = refl
-same-refusal BrokenPlate NoPicture e = absurd (omega arith)
-same-refusal NoPicture BrokenPlate e = absurd (omega arith)
-same-refusal NoPicture NoPicture e = refl
+-- the answer that has this number and these values
+abbrev back : Answer Picture → Lookup
+back a =
+    cond (eqb (a .number) 0) (Found (fullSize (a .left .width) (a .left .height)) (stretchIn (a .left)))
+    (cond (eqb (a .number) 10) (Refused BrokenPlate) (Refused NoPicture))
 
-not-done : (r : Refusal) → numberOf r ≡ 0 → ⊥
-not-done BrokenPlate e = omega arith
-not-done NoPicture e = omega arith
-
-number : {a b : Answer Picture} → a ≡ b → a .number ≡ b .number
-number e = ap (λ (x : Answer Picture). x .number) e
+back-is : (a : Lookup) → back (answers a) ≡ a
+back-is (Refused BrokenPlate) = refl
+back-is (Refused NoPicture) = refl
+back-is (Found size stretch) = refl
 
 -- no two answers have the same number and values
 pub answers-once : (a b : Lookup) → answers a ≡ answers b → a ≡ b
-answers-once (Refused a) (Refused b) e = ap Refused (same-refusal a b (number e))
-answers-once (Refused a) (Found s t) e = absurd (not-done a (number e))
-answers-once (Found s t) (Refused b) e = absurd (not-done b (sym (number e)))
-answers-once (Found s t) (Found s′ t′) e = λ i. Found (fullSize (e i .left .width) (e i .left .height)) (stretchIn (e i .left))
+answers-once = undone answers back back-is
 
 pub find-determined : (κs : Lfts 1) (a : Dens κs find-kinds.ps) (r₁ r₂ : Lookup) (x₁ x₂ : AtExit (endedOf 1 find-kinds.ps find-kinds.r) κs) →
     find.Post κs a r₁ x₁ → find.Post κs a r₂ x₂ → r₁ ≡ r₂
 find-determined κs a r₁ r₂ x₁ x₂ h₁ h₂ = answers-once r₁ r₂ (h₁ ∙ sym h₂)
 
 pub part-determined : (κs : Lfts 1) (a : Dens κs part-kinds.ps) (r₁ r₂ : RefT (List ℕ)) (x₁ x₂ : AtExit (endedOf 1 part-kinds.ps part-kinds.r) κs) →
-    part.Post κs a r₁ x₁ → part.Post κs a r₂ x₂ → partOf r₁ ≡ partOf r₂
+    part.Post κs a r₁ x₁ → part.Post κs a r₂ x₂ → slicePart r₁ ≡ slicePart r₂
 part-determined κs a r₁ r₂ x₁ x₂ h₁ h₂ = h₁ ∙ sym h₂
-
-pub job-determined : (κs : Lfts 2) (a : Dens κs job-kinds.ps) (r₁ r₂ : ℕ) (x₁ x₂ : AtExit (endedOf 2 job-kinds.ps job-kinds.r) κs) →
-    job.Post κs a r₁ x₁ → job.Post κs a r₂ x₂ → (r₁ ≡ r₂) × (now (x₁ .0) ≡ now (x₂ .0)) × (now (x₁ .1 .0) ≡ now (x₂ .1 .0))
-job-determined κs a r₁ r₂ x₁ x₂ h₁ h₂ =
-    let e = h₁ ∙ sym h₂ in
-    (ap (λ (o : Answer Lent). o .number) e, ap (λ (o : Answer Lent). o .left .plate) e, ap (λ (o : Answer Lent). o .left .scratch) e)

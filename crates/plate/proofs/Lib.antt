@@ -1,9 +1,3 @@
 -- Laws of the definitions of specs/, for this crate's proofs and for those above it.
-pub mod Lengths
 pub mod Settle
 pub mod Determined
-pub mod Cleared
-pub mod After
-pub mod Turns
-pub mod Fixed
-pub mod Lent

@@ -1,4 +1,2 @@
--- The definitions that contracts cite of a picture of a plate and of the job.
+-- The definitions that contracts cite of a picture of a plate.
 pub mod Lookup
-pub mod Job
-pub mod Steps

@@ -7,12 +7,13 @@ use lib.ListN.{take, drop}
 use denote.Ref.{RefT, ptr, now}
 use Rattle.picture.specs.Answer.{Answer, answered, settled}
 use Rattle.picture.specs.Refusal.{Check, check, firstOf}
+use Rattle.picture.specs.Slice.{SlicePart}
 use Rattle.plate_format.specs.Format.{count, entryOf, bodyOffset, isPlate}
-use Rattle.plate.specs.declared.lookup.Refusal.{Refusal}
-use Rattle.plate.specs.declared.lookup.Refusal.the-variants.{BrokenPlate, NoPicture}
-use Rattle.plate.specs.declared.lookup.Stretch.{Stretch}
-use Rattle.plate.specs.declared.lookup.Lookup.{Lookup}
-use Rattle.plate.specs.declared.lookup.Lookup.the-variants.{Refused, Found}
+use Rattle.plate.specs.declared.Refusal.{Refusal}
+use Rattle.plate.specs.declared.Refusal.the-variants.{BrokenPlate, NoPicture}
+use Rattle.plate.specs.declared.Stretch.{Stretch}
+use Rattle.plate.specs.declared.Lookup.{Lookup}
+use Rattle.plate.specs.declared.Lookup.the-variants.{Refused, Found}
 
 -- the values beside the number: the sides, and the stretch of the file
 pub record Picture : Type 0 where
@@ -44,27 +45,19 @@ unfoldable pub lookedUp : List ℕ → ℕ → Answer Picture
 lookedUp file index = settled (firstOf (lookupChecks file index)) nothing (pictureOf file index)
 
 -- the number of each refusal
-abbrev pub numberOf : Refusal → ℕ
-numberOf BrokenPlate = 10
-numberOf NoPicture = 12
+abbrev pub lookupNumber : Refusal → ℕ
+lookupNumber BrokenPlate = 10
+lookupNumber NoPicture = 12
 
 -- the number and the values of each case of the answer
 abbrev pub answers : Lookup → Answer Picture
-answers (Refused r) = answered (numberOf r) nothing
+answers (Refused r) = answered (lookupNumber r) nothing
 answers (Found size s) = answered 0 (record { width = size .w; height = size .h; offset = s .offset; length = s .length })
 
+-- the stretch among those values
 abbrev pub stretchIn : Picture → Stretch
 stretchIn p = record { offset = p .offset; length = p .length }
 
--- a lent part: the block of memory it lies in, where it starts there, and its bytes
-pub record Part : Type 0 where
-  pub block : ℕ
-  pub start : ℕ
-  pub bytes : List ℕ
-
-abbrev pub partOf : RefT (List ℕ) → Part
-partOf r = record { block = ptr r .0; start = ptr r .1; bytes = now r }
-
 -- that stretch of the caller's own file: offset bytes after the file's own start, and length bytes long
-abbrev pub stretchOf : RefT (List ℕ) → Picture → Part
+abbrev pub stretchOf : RefT (List ℕ) → Picture → SlicePart
 stretchOf file p = record { block = ptr file .0; start = ptr file .1 + p .offset; bytes = take (p .length) (drop (p .offset) (now file)) }

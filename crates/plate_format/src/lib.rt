@@ -43,20 +43,21 @@ pub fn count(file: &[u8]) -> usize
     u16_at(file, 2) as usize
 }
 
-// The versions there are.
+// Whether there is such a version of the plate file.
 fn known(v: u16) -> bool
     ensures { λ r. ⌜ r ≡ known v ⌝ }
 {
     v == 1
 }
 
-// What a version fixes: how many bytes an entry has, and the most bytes of the whole.
+// How many bytes an entry of this version's table has.
 fn entry_size(v: u16) -> usize
     ensures { λ r. ⌜ r ≡ entrySize v ⌝ }
 {
     12
 }
 
+// The most bytes that a plate of this version has.
 fn largest_whole(v: u16) -> usize
     ensures { λ r. ⌜ r ≡ largestWhole v ⌝ }
 {

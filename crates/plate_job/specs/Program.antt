@@ -1,12 +1,12 @@
 -- What the program makes of its input.
-use mathlib.Core.Bool.{Bool, _&&_, cond}
+use mathlib.Core.Bool.{_&&_, cond}
 use mathlib.Core.List.{List}
 use Prim.Native.Nat.{ℕ}
 use lib.Dec.{leb}
 use lib.ListN.{length}
 use Rattle.picture.specs.Answer.{Answer, settled}
 use Rattle.plate_format.specs.Format.{isPlate}
-use Rattle.plate.specs.Job.{plateBlur, jobbed}
+use Rattle.job.specs.Job.{plateBlur, jobbed}
 
 -- the most bytes that the program takes
 abbrev pub longestInput : ℕ

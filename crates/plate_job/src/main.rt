@@ -18,7 +18,7 @@ fn run(input: &mut [u8], scratch: &mut [u8]) -> u32
     if LONGEST < input.len() {
         return picture::BROKEN_PLATE;
     }
-    plate::job::plate_job(input, scratch)
+    job::plate_job(input, scratch)
 }
 
 fn answer(input: &mut [u8], scratch: &mut [u8])

@@ -5,7 +5,7 @@ use native.Mathlib.Omega.{arith}
 use lib.ListN.{length}
 use lib.Seq.{length-take-le, length-front}
 use Rattle.picture.specs.Planes.{cleared}
-use Rattle.gaussian_blur.specs.Outcome.{lent}
+use Rattle.picture.specs.Answer.{lent}
 use Rattle.gaussian_blur.proofs.Outcomes.{cleared-part}
 use borrow.Author.Needs.{needs}
 use Rattle.gaussian_blur.proofs.blur_accepted.Statement.{statement}

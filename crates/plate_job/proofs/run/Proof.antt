@@ -4,8 +4,8 @@ use borrow.Author.Needs.{needs}
 use borrow.Author.Tests.{lt-leb, le-leb}
 use lib.ListN.{length}
 use Rattle.picture.specs.Answer.{settled}
-use Rattle.plate.specs.Job.{plateBlur}
-use Rattle.plate.proofs.Settle.{job-roomy}
+use Rattle.job.specs.Job.{plateBlur}
+use Rattle.job.proofs.Settle.{job-roomy}
 use Rattle.plate_job.specs.Program.{longestInput, answerTo}
 use Rattle.plate_job.proofs.run.Statement.{statement}
 use Rattle.plate_job.proofs.run.Tie as tie

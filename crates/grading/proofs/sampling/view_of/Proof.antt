@@ -39,7 +39,8 @@ use denote.Triple.Walked.{says, Stays, stay-none, stay-none-slice, walkOf, goes-
 use denote.Exit.{yes}
 use denote.Triple.Clauses.{ensured, lasts}
 use Rattle.grading.proofs.Walk.{unsigned, passes, leaves}
-use Rattle.grading.specs.Sampling.{partOf, seenPart, seenSide, seen, viewed}
+use Rattle.picture.specs.Slice.{slicePart}
+use Rattle.grading.specs.Sampling.{seenPart, seenSide, seen, viewed}
 use Rattle.grading.specs.declared.sampling.View.{View}
 use Rattle.grading.proofs.sampling.View as T
 use Rattle.grading.proofs.sampling.View.Laws as T′
@@ -113,7 +114,7 @@ module _ {M : Type 1} (𝓤 : URA M) (H : Heap 𝓤) (A : Atoms 𝓤) (W : Given
   part-learnt r = ensured 𝓤 H A part.ended (part.clauses 𝓤 H A mem run) κs args tt r
 
   abbrev IsPart : RefT (List ℕ) → Type 0
-  IsPart r = partOf r ≡ seenPart s w h e
+  IsPart r = slicePart r ≡ seenPart s w h e
 
   part-said : (r : RefT (List ℕ)) → ent 𝓤 (part-learnt r) (fact 𝓤 (IsPart r))
   part-said r = exE 𝓤 _ (λ ws. snd∗ 𝓤 (sem 𝓤 H A (lasts part.ended κs args ws)) (fact 𝓤 (IsPart r)))

@@ -1,0 +1,9 @@
+-- Laws of the definitions of specs/, for this crate's proofs and for those above it.
+pub mod Lengths
+pub mod Settle
+pub mod Determined
+pub mod Cleared
+pub mod After
+pub mod Turns
+pub mod Fixed
+pub mod Body

@@ -1,0 +1,28 @@
+-- The blur's own promise, at the job's weights, n, strength and edge rule, where nothing is refused.
+use borrow.Author.Needs.{needs}
+use lib.Ieee.{ofBits}
+use Rattle.job.proofs.Fixed.{fixed}
+use Rattle.job.proofs.blur_part.Statement.{statement}
+use Rattle.job.proofs.blur_part.Tie as tie
+
+slice-aggregate-blur : tie.Need-slice-aggregate-blur
+slice-aggregate-blur c = search needs
+
+blur-requires : tie.Need-blur-requires
+blur-requires c κs = search needs
+
+same-length : tie.Need-same-length
+same-length c = search needs
+
+same-length-2 : tie.Need-same-length-2
+same-length-2 c = search needs
+
+returns : tie.Need-returns
+unfolding ofBits
+returns c =
+    let b = c .before .before .before .before in
+    fixed _ _ _ _ (b .before .before .before .before .before .before .pre) (b .blur .ensures)
+
+pub blur-part-spec : {M : Type 1} → statement M
+blur-part-spec =
+    tie.close (tie.spec slice-aggregate-blur blur-requires same-length same-length-2 returns)

@@ -1,0 +1,62 @@
+-- The job: each body of a plate is blurred where it lies.
+use mathlib.Core.Bool.{false, not}
+use mathlib.Core.List.{List, [], _∷_, _++_}
+use Prim.Native.Nat.{ℕ, zero, suc, max}
+use lib.Dec.{ltb}
+use lib.IntN.{negsuc}
+use lib.Ieee.{Float, fin}
+use lib.ListN.{length, take, drop}
+use Rattle.picture.specs.Planes.{cleared}
+use Rattle.picture.specs.Answer.{Answer, Lent, lent, settled}
+use Rattle.picture.specs.Refusal.{Check, check, firstOf}
+use Rattle.picture.specs.declared.EdgeMode.the-variants.{Duplicate}
+use Rattle.binary32.specs.Ranges.{one32}
+use Rattle.gaussian_blur.specs.Outcome.{blurredOrKept}
+use Rattle.plate_format.specs.Format.{count, entryOf, bodyOffset, isPlate}
+
+-- the blur of a body: its width, its height, its bytes, and the bytes it becomes
+abbrev pub BodyBlur : Type 0
+BodyBlur = ℕ → ℕ → List ℕ → List ℕ
+
+-- the weights of the job's blur: 1/4, 1/2, 1/4
+abbrev pub plateWeights : List Float
+plateWeights = fin false 1 (negsuc 1) ∷ fin false 1 (negsuc 0) ∷ fin false 1 (negsuc 1) ∷ []
+
+-- the blur of the job: those weights, n = 1, Duplicate, strength 1
+unfoldable pub plateBlur : BodyBlur
+plateBlur w h body = blurredOrKept Duplicate plateWeights 1 one32 w h body
+
+-- body i: the stretch of the file that entry i names
+abbrev pub bodyOf : List ℕ → ℕ → List ℕ
+bodyOf file i = take (entryOf file i .length) (drop (bodyOffset file i) file)
+
+-- the longest of the bodies below i
+unfoldable pub longestBelow : List ℕ → ℕ → ℕ
+longestBelow file zero = 0
+longestBelow file (suc i) = max (longestBelow file i) (entryOf file i .length)
+
+-- the longest body's length, 0 for a plate without pictures
+abbrev pub longestBody : List ℕ → ℕ
+longestBody file = longestBelow file (count file)
+
+-- body i, blurred
+abbrev pub blurredBody : BodyBlur → List ℕ → ℕ → List ℕ
+blurredBody blur file i = blur (entryOf file i .width) (entryOf file i .height) (bodyOf file i)
+
+-- the table as it was, then the bodies below i, each blurred
+unfoldable pub jobbedBelow : BodyBlur → List ℕ → ℕ → List ℕ
+jobbedBelow blur file zero = take (bodyOffset file 0) file
+jobbedBelow blur file (suc i) = jobbedBelow blur file i ++ blurredBody blur file i
+
+-- the file afterwards: the table as it was, then every body blurred
+abbrev pub jobbed : BodyBlur → List ℕ → List ℕ
+jobbed blur file = jobbedBelow blur file (count file)
+
+-- Plate job: 10, then 3
+abbrev pub jobChecks : List ℕ → List ℕ → List Check
+jobChecks file scratch = check 10 (not (isPlate file)) ∷ check 3 (ltb (length scratch) (longestBody file)) ∷ []
+
+-- the first refusal; or every body blurred, and the scratch zero where it was used
+unfoldable pub jobOutcome : BodyBlur → List ℕ → List ℕ → Answer Lent
+jobOutcome blur file scratch =
+    settled (firstOf (jobChecks file scratch)) (lent file scratch) (lent (jobbed blur file) (cleared (longestBody file) scratch))

@@ -1,0 +1,3 @@
+-- The definitions that contracts cite of the job.
+pub mod Job
+pub mod Steps
