@@ -5,5 +5,6 @@ pub mod Sizes
 pub mod Levels
 pub mod Build
 pub mod Planes
+pub mod Spans
 pub mod Passed
 pub mod Answers
