@@ -7,19 +7,20 @@ use native.Mathlib.Omega.{arith}
 use lib.ListN.{length, set, length-set}
 use Rattle.picture.specs.declared.EdgeMode.{EdgeMode}
 use Rattle.picture.specs.declared.Pixel.{Pixel}
+use Rattle.picture.specs.Spans.{Run}
+use Rattle.picture.proofs.Spans.{span-none, span-more}
 use Rattle.edges.specs.Edges.{place, sample}
 use Rattle.edges.specs.declared.At.the-variants.{Inside, Outside}
-use Rattle.passes.specs.Written.{lane, Run}
-use Rattle.passes.proofs.Written.{run-none, run-more}
+use Rattle.passes.specs.Written.{lane}
 use Rattle.blend.specs.Blend.{mix}
-use Rattle.blend.specs.Pixels.{byteOf, pixelAt, pixelOf, samplePixel, mixPixels}
+use Rattle.blend.specs.Pixels.{channelOf, pixelAt, pixel, samplePixel, mixPixels}
 
 -- byte k of four blended pixels is that byte of each, blended
-module _ {p q r s m : Pixel} (a b c d : ℕ → ℕ) (ep : p ≡ pixelOf a) (eq : q ≡ pixelOf b) (er : r ≡ pixelOf c) (es : s ≡ pixelOf d) (em : m ≡ mixPixels p q r s) where
-  pub bytes-mix : (k : ℕ) → k < 4 → byteOf m k ≡ mix (a k) (b k) (c k) (d k)
+module _ {p q r s m : Pixel} (a b c d : ℕ → ℕ) (ep : p ≡ pixel a) (eq : q ≡ pixel b) (er : r ≡ pixel c) (es : s ≡ pixel d) (em : m ≡ mixPixels p q r s) where
+  pub bytes-mix : (k : ℕ) → k < 4 → channelOf m k ≡ mix (a k) (b k) (c k) (d k)
   bytes-mix k l = rw (em, ep, eq, er, es) (each k l)
     where
-      each : (k : ℕ) → k < 4 → byteOf (mixPixels (pixelOf a) (pixelOf b) (pixelOf c) (pixelOf d)) k ≡ mix (a k) (b k) (c k) (d k)
+      each : (k : ℕ) → k < 4 → channelOf (mixPixels (pixel a) (pixel b) (pixel c) (pixel d)) k ≡ mix (a k) (b k) (c k) (d k)
       each zero l = refl
       each (suc zero) l = refl
       each (suc (suc zero)) l = refl
@@ -28,13 +29,13 @@ module _ {p q r s m : Pixel} (a b c d : ℕ → ℕ) (ep : p ≡ pixelOf a) (eq 
 
 module _ (src : List ℕ) (start : ℕ) where
   -- byte k of pixel i of a row is its lane k
-  pub pixel-lanes : (i : ℕ) → pixelAt src (start + i * 4) ≡ pixelOf (λ k. lane src start 4 k i)
+  pub pixel-lanes : (i : ℕ) → pixelAt src (start + i * 4) ≡ pixel (λ k. lane src start 4 k i)
   pixel-lanes i = simp add-zero
 
   -- lane k of four blended pixels of a row is that lane of each, blended
   pub pixels-mix : {p q r s m : Pixel} (a b c d : ℕ) →
       p ≡ pixelAt src (start + a * 4) → q ≡ pixelAt src (start + b * 4) → r ≡ pixelAt src (start + c * 4) → s ≡ pixelAt src (start + d * 4) → m ≡ mixPixels p q r s →
-      (k : ℕ) → k < 4 → byteOf m k ≡ mix (lane src start 4 k a) (lane src start 4 k b) (lane src start 4 k c) (lane src start 4 k d)
+      (k : ℕ) → k < 4 → channelOf m k ≡ mix (lane src start 4 k a) (lane src start 4 k b) (lane src start 4 k c) (lane src start 4 k d)
   pixels-mix a b c d ep eq er es =
       bytes-mix _ _ _ _ (ep ∙ pixel-lanes a) (eq ∙ pixel-lanes b) (er ∙ pixel-lanes c) (es ∙ pixel-lanes d)
 
@@ -44,8 +45,8 @@ module _ (mode : EdgeMode) (len : ℕ) (src : List ℕ) (start : ℕ) where
   byteAt c d k = sample mode len (lane src start 4 k) c d
 
   pub samples-mix : {p q r s m : Pixel} (cp dp cq dq cr dr cs ds : ℕ) →
-      p ≡ pixelOf (byteAt cp dp) → q ≡ pixelOf (byteAt cq dq) → r ≡ pixelOf (byteAt cr dr) → s ≡ pixelOf (byteAt cs ds) → m ≡ mixPixels p q r s →
-      (k : ℕ) → k < 4 → byteOf m k ≡ mix (byteAt cp dp k) (byteAt cq dq k) (byteAt cr dr k) (byteAt cs ds k)
+      p ≡ pixel (byteAt cp dp) → q ≡ pixel (byteAt cq dq) → r ≡ pixel (byteAt cr dr) → s ≡ pixel (byteAt cs ds) → m ≡ mixPixels p q r s →
+      (k : ℕ) → k < 4 → channelOf m k ≡ mix (byteAt cp dp k) (byteAt cq dq k) (byteAt cr dr k) (byteAt cs ds k)
   samples-mix cp dp cq dq cr dr cs ds = bytes-mix (byteAt cp dp) (byteAt cq dq) (byteAt cr dr) (byteAt cs ds)
 
 -- the pixel that a coordinate reads is the one at its place
@@ -54,15 +55,15 @@ module _ (mode : EdgeMode) (len : ℕ) (src : List ℕ) (start c d : ℕ) where
   unfolding sample
   sampled-inside i e = rw e (pixel-lanes src start i)
 
-  pub sampled-outside : place mode len c d ≡ Outside → pixelOf (λ _. 0) ≡ samplePixel mode len src start c d
+  pub sampled-outside : place mode len c d ≡ Outside → pixel (λ _. 0) ≡ samplePixel mode len src start c d
   unfolding sample
   sampled-outside e = rw e
 
--- a pixel's bytes stored one after another
+-- a pixel's channels stored one after another
 pub pixel-run : (d : List ℕ) (o : ℕ) (p : Pixel) → o + 4 ≤ length d →
-    Run d (set (set (set (set d o (p .r)) (o + 1) (p .g)) (o + 2) (p .b)) (o + 3) (p .a)) o 4 (byteOf p)
+    Run 0 d (set (set (set (set d o (p .r)) (o + 1) (p .g)) (o + 2) (p .b)) (o + 3) (p .a)) o 4 (channelOf p)
 pixel-run d o p l =
-    let one = rw add-zero at (run-more {d = d} {o = o} {f = byteOf p} {n = 0} run-none (omega arith) refl) in
-    let two = run-more {n = 1} one (simp length-set (omega arith)) refl in
-    let three = run-more {n = 2} two (simp length-set (omega arith)) refl in
-    run-more {n = 3} three (simp length-set (omega arith)) refl
+    let one : Run 0 d (set d o (p .r)) o 1 (channelOf p) = span-more {b = 0} (span-none (omega arith)) (omega arith) (omega arith) (omega arith) refl in
+    let two = span-more {b = 1} one (omega arith) (simp length-set (omega arith)) refl refl in
+    let three = span-more {b = 2} two (omega arith) (simp length-set (omega arith)) refl refl in
+    span-more {b = 3} three (omega arith) (simp length-set (omega arith)) refl refl

@@ -6,13 +6,13 @@ use native.Mathlib.Omega.{arith}
 use native.Mathlib.Nat.{zero-mul}
 use lib.ListN.{length}
 use Rattle.picture.specs.declared.EdgeMode.{EdgeMode}
+use Rattle.picture.proofs.Spans.{within}
 use Rattle.edges.specs.Edges.{place, Below}
 use Rattle.edges.specs.declared.At.{At}
 use Rattle.edges.specs.declared.At.the-variants.{Inside, Outside}
 use Rattle.edges.proofs.Places.{place-near, below}
-use Rattle.passes.proofs.Written.{within}
 use Rattle.blend.specs.Blend.{startOf, Blendable}
-use Rattle.blend.specs.Made.{Room}
+use Rattle.blend.specs.Parts.{Room}
 
 -- a coordinate inside is its own place
 pub inside : (mode : EdgeMode) (s c d i : ℕ) → c ≡ d + i → i < s → Inside i ≡ place mode s c d

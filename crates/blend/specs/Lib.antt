@@ -1,4 +1,4 @@
 -- The definitions that contracts cite of bytes blended in weights 1, 3, 3, 1 over 8, and of outputs made.
 pub mod Blend
 pub mod Pixels
-pub mod Made
+pub mod Parts

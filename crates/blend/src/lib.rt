@@ -3,12 +3,13 @@ ghost use mathlib.Core.Path.{_≡_};
 ghost use Prim.Native.Nat.{_+_, _*_, _/_, _≤_, _<_, _^_};
 ghost use lib.ListN.{length};
 ghost use Rattle.picture.specs.Sizes.{sideRoom};
+ghost use Rattle.picture.specs.Spans.{Run};
 ghost use Rattle.edges.specs.Edges.{place, Reach};
 ghost use Rattle.passes.specs.Passes.{halve, double};
-ghost use Rattle.passes.specs.Written.{lane, Run};
+ghost use Rattle.passes.specs.Written.{lane};
 ghost use Rattle.blend.specs.Blend.{mixAt, startOf, tapOf, Blendable};
-ghost use Rattle.blend.specs.Pixels.{byteOf, pixelAt, samplePixel, mixPixels};
-ghost use Rattle.blend.specs.Made.{Room, MadeInside};
+ghost use Rattle.blend.specs.Pixels.{channelOf, pixelAt, samplePixel, mixPixels};
+ghost use Rattle.blend.specs.Parts.{Room, PassPartInside};
 use edges::At;
 use edges::extend;
 use picture::EdgeMode;
@@ -71,7 +72,7 @@ fn blend_element(
     o: usize,
 )
     requires { ⌜ Blendable (now src) (now dst) a b c d start stride o ⌝ }
-    ensures { λ _. ⌜ Run (now (dst .entry)) (now (dst .exit)) o stride (λ k. mixAt a b c d (lane (now (src .entry)) start stride k)) ⌝ }
+    ensures { λ _. ⌜ Run 0 (now (dst .entry)) (now (dst .exit)) o stride (λ k. mixAt a b c d (lane (now (src .entry)) start stride k)) ⌝ }
 {
     let ta = tap_of(a, start, stride, 1);
     let tb = tap_of(b, start, stride, 3);
@@ -143,7 +144,7 @@ fn blend_pixels(p: Pixel, q: Pixel, r: Pixel, s: Pixel) -> Pixel
 // Pixel i of the row at o, written.
 fn write_pixel(dst: &mut [u8], o: usize, i: usize, p: Pixel)
     requires { ⌜ o + i * 4 + 4 ≤ length (now dst) ⌝ }
-    ensures { λ _. ⌜ Run (now (dst .entry)) (now (dst .exit)) (o + i * 4) 4 (byteOf p) ⌝ }
+    ensures { λ _. ⌜ Run 0 (now (dst .entry)) (now (dst .exit)) (o + i * 4) 4 (channelOf p) ⌝ }
 {
     let at = o + i * 4;
     dst[at] = p.r;
@@ -164,7 +165,7 @@ pub fn halve_element(
     mode: EdgeMode,
 )
     requires { ⌜ (x < 2 * sideRoom) × Room (now src) (now dst) start stride len o 1 ⌝ }
-    ensures { λ _. ⌜ Run (now (dst .entry)) (now (dst .exit)) o stride (λ k. halve mode len (lane (now (src .entry)) start stride k) x) ⌝ }
+    ensures { λ _. ⌜ Run 0 (now (dst .entry)) (now (dst .exit)) o stride (λ k. halve mode len (lane (now (src .entry)) start stride k) x) ⌝ }
 {
     let a = find_place(2 * x, 1, len, mode);
     let b = find_place(2 * x, 0, len, mode);
@@ -185,7 +186,7 @@ pub fn double_element(
     mode: EdgeMode,
 )
     requires { ⌜ (y < 2 * sideRoom) × Room (now src) (now dst) start stride len o 1 ⌝ }
-    ensures { λ _. ⌜ Run (now (dst .entry)) (now (dst .exit)) o stride (λ k. double mode len (lane (now (src .entry)) start stride k) y) ⌝ }
+    ensures { λ _. ⌜ Run 0 (now (dst .entry)) (now (dst .exit)) o stride (λ k. double mode len (lane (now (src .entry)) start stride k) y) ⌝ }
 {
     let x = y / 2;
     let b = find_place(x, 0, len, mode);
@@ -209,7 +210,7 @@ pub fn halve_end(
     mode: EdgeMode,
 )
     requires { ⌜ (x < 2 * sideRoom) × Room (now src) (now dst) start 4 len o 1 ⌝ }
-    ensures { λ _. ⌜ Run (now (dst .entry)) (now (dst .exit)) o 4 (λ k. halve mode len (lane (now (src .entry)) start 4 k) x) ⌝ }
+    ensures { λ _. ⌜ Run 0 (now (dst .entry)) (now (dst .exit)) o 4 (λ k. halve mode len (lane (now (src .entry)) start 4 k) x) ⌝ }
 {
     let at = 2 * x;
     let p = sample_pixel(src, start, len, at, 1, mode);
@@ -230,7 +231,7 @@ pub fn double_end(
     mode: EdgeMode,
 )
     requires { ⌜ (y < 2 * sideRoom) × Room (now src) (now dst) start 4 len o 1 ⌝ }
-    ensures { λ _. ⌜ Run (now (dst .entry)) (now (dst .exit)) o 4 (λ k. double mode len (lane (now (src .entry)) start 4 k) y) ⌝ }
+    ensures { λ _. ⌜ Run 0 (now (dst .entry)) (now (dst .exit)) o 4 (λ k. double mode len (lane (now (src .entry)) start 4 k) y) ⌝ }
 {
     let x = y / 2;
     let odd = y % 2;
@@ -242,7 +243,7 @@ pub fn double_end(
 // Output x of a row, halved, whose samples lie inside.
 pub fn halve_pixel(src: &[u8], start: usize, len: usize, dst: &mut [u8], o: usize, x: usize)
     requires { ⌜ (0 < x) × (2 * x + 2 < len) × Room (now src) (now dst) start 4 len o (x + 1) ⌝ }
-    ensures { λ _. ⌜ MadeInside halve (now (src .entry)) (now (dst .entry)) (now (dst .exit)) start len o x (x + 1) ⌝ }
+    ensures { λ _. ⌜ PassPartInside halve (now (src .entry)) (now (dst .entry)) (now (dst .exit)) start len o x (x + 1) ⌝ }
 {
     let at = 2 * x;
     let p = read_pixel(src, start, at - 1);
@@ -255,7 +256,7 @@ pub fn halve_pixel(src: &[u8], start: usize, len: usize, dst: &mut [u8], o: usiz
 // Outputs 2x and 2x + 1 of a row, doubled, whose samples lie inside.
 pub fn double_pixel(src: &[u8], start: usize, len: usize, dst: &mut [u8], o: usize, x: usize)
     requires { ⌜ (0 < x) × (x + 1 < len) × Room (now src) (now dst) start 4 len o (2 * x + 2) ⌝ }
-    ensures { λ _. ⌜ MadeInside double (now (src .entry)) (now (dst .entry)) (now (dst .exit)) start len o (2 * x) (2 * x + 2) ⌝ }
+    ensures { λ _. ⌜ PassPartInside double (now (src .entry)) (now (dst .entry)) (now (dst .exit)) start len o (2 * x) (2 * x + 2) ⌝ }
 {
     let at = 2 * x;
     let p = read_pixel(src, start, x - 1);

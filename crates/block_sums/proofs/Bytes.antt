@@ -17,11 +17,10 @@ use Rattle.binary32.proofs.Kernels.{weight, weights-of}
 use Rattle.binary32.proofs.Taps.{taps-bounded}
 use Rattle.binary32.proofs.Values.{plain-nonneg}
 use Rattle.passes.specs.Passes.{convolve}
-use Rattle.passes.specs.Written.{lane}
+use Rattle.passes.specs.Written.{lane, lineByte}
 use Rattle.lanes.specs.Lanes.{widened, laneSum}
 use Rattle.lanes.proofs.Taps.{weighted-taps}
 use Rattle.blocks.specs.Blocks.{blockValue}
-use Rattle.block_sums.specs.Bytes.{lineByte}
 use Rattle.passes.specs.Kernel.{Kernel}
 use Rattle.block_sums.proofs.Taps.{few-taps, most-taps}
 
@@ -58,7 +57,7 @@ module _ {mode : EdgeMode} {weights : List Float} {src : List ℕ} {start len st
   lane-taps : laneSum line a n weights (length weights) i ≡ taps read (weight weights) (length weights)
   lane-taps = weighted-taps _ read (weight weights) (length weights) reads
 
-  pub lane-byte : (j : ℕ) → (j / stride ≡ x + (r + i / n)) × (j % stride ≡ from + i % n) → toByte (laneSum line a n weights (length weights) i) ≡ lineByte mode weights src start len stride j
+  pub lane-byte : (j : ℕ) → (j / stride ≡ x + (r + i / n)) × (j % stride ≡ from + i % n) → toByte (laneSum line a n weights (length weights) i) ≡ lineByte (convolve mode weights) src start len stride j
   unfolding convolve
   lane-byte j p = rw (p .0, p .1) (ap toByte lane-taps)
 

@@ -13,7 +13,7 @@ use Rattle.picture.proofs.Sizes.{room-is}
 use Rattle.picture.proofs.Tests.{neither}
 use Rattle.edges.specs.Edges.{Reach}
 use Rattle.passes.specs.Kernel.{Kernel}
-use Rattle.block_sums.specs.Room.{Source, whole, lanes, Buffers}
+use Rattle.block_sums.specs.Room.{Source, whole, lanes, BlockBuffers}
 
 -- the most taps are far fewer than arithmetic has room for
 pub few-taps : maxTaps ≤ 1024
@@ -47,7 +47,7 @@ taps-room m k n l =
     ap-mul n e = rw e
 
 -- the buffers have room for a block of whole elements, and for one that goes in strips
-module _ {weights line acc : List Float} (w : Kernel weights) (m stride : ℕ) (b : Buffers line acc stride m) where
+module _ {weights line acc : List Float} (w : Kernel weights) (m stride : ℕ) (b : BlockBuffers line acc stride m) where
   -- the taps that there are, for the most that there may be
   values : (m + (length weights - 1)) * min stride lanes ≤ length line
   values =

@@ -22,7 +22,7 @@ abbrev pub lanes : ℕ
 lanes = 128
 
 -- room for blocks of at most `most` elements of stride bytes: for the values of a strip with those that the taps read beyond its elements, for the sums of whole elements, and for those of a strip
-pub record Buffers (line acc : List Float) (stride most : ℕ) : Type 0 where
+pub record BlockBuffers (line acc : List Float) (stride most : ℕ) : Type 0 where
   pub some : 0 < most
   pub values : (most + (maxTaps - 1)) * min stride lanes ≤ length line
   pub sums : most * min stride whole ≤ length acc

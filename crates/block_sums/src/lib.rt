@@ -4,7 +4,7 @@ ghost use mathlib.Core.Path.{_≡_};
 ghost use Prim.Native.Nat.{ℕ, _+_, _-_, _*_, _≤_, _<_, min};
 ghost use lib.ListN.{length};
 ghost use Rattle.block_sums.specs.Bytes.{Convolved, Elements, Strip};
-ghost use Rattle.block_sums.specs.Room.{Source, lanes, Buffers};
+ghost use Rattle.block_sums.specs.Room.{Source, lanes, BlockBuffers};
 use picture::EdgeMode;
 
 // Elements of at most this many bytes are taken whole, others in strips of at most so many lanes.
@@ -142,7 +142,7 @@ pub fn convolve_block(
     weights: &[f32],
     mode: EdgeMode,
 )
-    requires { ⌜ Source (now src) (now weights) start len stride ⌝ ∗ ⌜ x + m ≤ len ⌝ ∗ ⌜ len * stride ≤ length (now dst) ⌝ ∗ ⌜ Buffers (now line) (now acc) stride m ⌝ }
+    requires { ⌜ Source (now src) (now weights) start len stride ⌝ ∗ ⌜ x + m ≤ len ⌝ ∗ ⌜ len * stride ≤ length (now dst) ⌝ ∗ ⌜ BlockBuffers (now line) (now acc) stride m ⌝ }
     ensures { λ _. ⌜ Convolved mode (now (weights .entry)) (now (src .entry)) start len stride (Elements stride x (x + m)) (now (dst .entry)) (now (dst .exit)) ⌝ }
 {
     if stride <= WHOLE {

@@ -1,10 +1,12 @@
--- Laws of what has been made: nothing, a span of values, one region after another.
-use mathlib.Core.Path.{_≡_, _∙_}
+-- Laws of what has been made: nothing, a run of values, one region after another.
+use mathlib.Core.Path.{_≡_, _∙_, ap}
 use mathlib.Core.List.{List}
 use mathlib.Core.Logic.{⊎-elim}
-use Prim.Native.Nat.{ℕ, _≤_, _<_}
-use Rattle.passes.proofs.Written.{le-or-lt}
-use Rattle.lanes.specs.Lanes.{Span}
+use Prim.Native.Nat.{ℕ, _+_, _-_, _≤_, _<_}
+use native.Mathlib.Omega.{arith}
+use lib.ListN.{getD}
+use Rattle.picture.specs.Spans.{Run}
+use Rattle.picture.proofs.Spans.{le-or-lt, span-at}
 use Rattle.blocks.specs.Blocks.{Made}
 
 module _ {A : Type 0} {none : A} {want : ℕ → A} where
@@ -15,17 +17,23 @@ module _ {A : Type 0} {none : A} {want : ℕ → A} where
   pub made-in : {R S : ℕ → Type 0} {d e : List A} → Made none want R d e → ((j : ℕ) → S j → R j) → Made none want S d e
   made-in m f = record { makes = λ j s. m .makes j (f j s); keeps = m .keeps }
 
-  -- a span of wanted values
-  pub made-span : {f : ℕ → A} {d e : List A} {a b : ℕ} → Span none d e a b f → ((j : ℕ) → a ≤ j → j < b → f j ≡ want j) → Made none want (λ j. (a ≤ j) × (j < b)) d e
-  made-span {f} {d} {e} {a} {b} s q =
+  -- a run of wanted values
+  pub made-run : {f : ℕ → A} {d e : List A} {o n : ℕ} → Run none d e o n f → ((k : ℕ) → k < n → f k ≡ want (o + k)) → Made none want (λ j. (o ≤ j) × (j < o + n)) d e
+  made-run {f} {d} {e} {o} {n} s q =
       record {
-        makes = λ j r. s .inside j (r .0) (r .1) ∙ q j (r .0) (r .1);
+        makes = λ j r. makes j (r .0) (r .1);
         keeps = λ j h.
             ⊎-elim
-            (λ (l : a ≤ j). ⊎-elim (λ (m : b ≤ j). s .above j m ∙ h) (λ (m : j < b). s .inside j l m ∙ q j l m) (le-or-lt b j))
-            (λ (l : j < a). s .below j l ∙ h)
-            (le-or-lt a j);
+            (λ (l : o ≤ j). ⊎-elim (λ (m : o + n ≤ j). s .above j m ∙ h) (makes j l) (le-or-lt (o + n) j))
+            (λ (l : j < o). s .below j (omega arith) ∙ h)
+            (le-or-lt o j);
       }
+    where
+      makes : (j : ℕ) → o ≤ j → j < o + n → getD e j none ≡ want j
+      makes j l m =
+          let k = j - o in
+          let at : o + k ≡ j = omega arith in
+          span-at s k (omega arith) (omega arith) (omega arith) ∙ q k (omega arith) ∙ ap want at
 
   -- one region after another: they part where a number q of each index reaches b
   pub made-join : {R S T : ℕ → Type 0} {d e e′ : List A} (q : ℕ → ℕ) (b : ℕ) → Made none want R d e → Made none want S e e′ →

@@ -2,7 +2,7 @@
 use mathlib.Core.Path.{_≡_, refl, sym, ap, _∙_}
 use mathlib.Core.List.{List}
 use Prim.Native.Nat.{ℕ, _+_, _-_, _*_, _/_, _%_, _≤_, _<_, min}
-use native.Mathlib.Nat.{add-mul, mul-le-mul-right, div-add-mod', div-lt-iff-lt-mul, le-div-iff-mul-le}
+use native.Mathlib.Nat.{add-mul, mul-le-mul-right, div-add-mod', div-lt-iff-lt-mul, mul-add-div-right, mul-add-mod-self-right}
 use native.Mathlib.Omega.{arith}
 use lib.Ieee.{ofInt, round}
 use lib.ListN.{getD}
@@ -39,19 +39,13 @@ module _ (x d len count low high : ℕ) (isLow : low ≡ d - x) (isHigh : high �
       let e : low + n ≡ high = omega arith in
       (sym (add-mul low n stride) ∙ ap (λ (k : ℕ). k * stride) e, mul-le-mul-right stride (r .1), omega (arith, add-mul (x + low - d) n stride, mul-le-mul-right {m = x + low - d + n} {n = len} stride (omega arith)))
 
--- value t of the run is byte t - low * stride of what starts at element x + low - d
-pub run-value : (mode : EdgeMode) (src : List ℕ) (start len stride x d low high t : ℕ) → 0 < stride → d ≤ x + low → x + high ≤ len + d → low * stride ≤ t → t < high * stride →
-    widened (getD src (start + (x + low - d) * stride + (t - low * stride)) 0) ≡ blockValue mode src start len stride 0 stride x d t
-run-value mode src start len stride x d low high t z a b l h =
-    let e = t / stride in
-    let le : low ≤ e = le-div-iff-mul-le z .1 l in
-    let lt : e < high = div-lt-iff-lt-mul z .1 h in
-    ap widened
-    (ap (λ (k : ℕ). getD src k 0) (place-is stride (x + low - d) low t le (omega arith))
-    ∙ sym (sample-near mode len (lane src start stride (0 + t % stride)) (x + e) d (x + e - d) (omega arith) (omega arith)))
-  where
-    place-is : (stride s low t : ℕ) {i : ℕ} → low ≤ t / stride → s + (t / stride - low) ≡ i → start + s * stride + (t - low * stride) ≡ start + i * stride + (0 + t % stride)
-    place-is stride s low t l p =
-        let u = t / stride - low in
-        let q : low + u ≡ t / stride = omega arith in
-        omega (arith, div-add-mod' t stride, add-mul s u stride, add-mul low u stride, ap (λ (k : ℕ). k * stride) p, ap (λ (k : ℕ). k * stride) q)
+-- value k of the run is byte k of what starts at element x + low - d
+pub run-value : (mode : EdgeMode) (src : List ℕ) (start len stride x d low high k : ℕ) → 0 < stride → d ≤ x + low → x + high ≤ len + d → k < (high - low) * stride →
+    widened (getD src (start + (x + low - d) * stride + k) 0) ≡ blockValue mode src start len stride 0 stride x d (low * stride + k)
+run-value mode src start len stride x d low high k z a b h =
+    let e = k / stride in
+    let i = x + low - d in
+    let short : e < high - low = div-lt-iff-lt-mul z .1 h in
+    let at : start + i * stride + k ≡ start + (i + e) * stride + (0 + k % stride) = omega (arith, div-add-mod' k stride, add-mul i e stride) in
+    rw (at, mul-add-div-right z low k, mul-add-mod-self-right low stride k)
+    (ap widened (sym (sample-near mode len (lane src start stride (0 + k % stride)) (x + (low + e)) d (i + e) (omega arith) (omega arith))))

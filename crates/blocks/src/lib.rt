@@ -4,9 +4,10 @@ ghost use mathlib.Core.Path.{_≡_};
 ghost use Prim.Native.Nat.{ℕ, _+_, _-_, _*_, _≤_, _<_, min};
 ghost use lib.Ieee.{nan};
 ghost use lib.ListN.{length};
+ghost use Rattle.picture.specs.Spans.{Run};
 ghost use Rattle.edges.specs.Edges.{sample, Reach};
 ghost use Rattle.passes.specs.Written.{lane};
-ghost use Rattle.lanes.specs.Lanes.{Span, widened};
+ghost use Rattle.lanes.specs.Lanes.{widened};
 ghost use Rattle.blocks.specs.Blocks.{blockValue, Made};
 use edges::At;
 use picture::EdgeMode;
@@ -40,7 +41,7 @@ fn fill_element(
     mode: EdgeMode,
 )
     requires { ⌜ a + n ≤ length (now line) ⌝ ∗ ⌜ from + n ≤ stride ⌝ ∗ ⌜ start + len * stride ≤ length (now src) ⌝ ∗ ⌜ Reach len c d ⌝ }
-    ensures { λ _. ⌜ Span nan (now (line .entry)) (now (line .exit)) a (a + n) (λ t. widened (sample mode len (lane (now (src .entry)) start stride (from + (t - a))) c d)) ⌝ }
+    ensures { λ _. ⌜ Run nan (now (line .entry)) (now (line .exit)) a n (λ k. widened (sample mode len (lane (now (src .entry)) start stride (from + k)) c d)) ⌝ }
 {
     match edges::extend(c, d, len, mode) {
         At::Inside(i) => lanes::widen(line, a, n, src, start + i * stride + from),

@@ -8,15 +8,15 @@ use native.Mathlib.Omega.{arith}
 use lib.Ieee.{Float}
 use lib.ListN.{length, replicate, length-replicate}
 use Rattle.picture.specs.Refusal.{maxTaps}
-use Rattle.passes.proofs.Written.{le-or-lt}
+use Rattle.picture.proofs.Spans.{le-or-lt}
 use Rattle.passes.specs.Kernel.{Kernel}
-use Rattle.block_sums.specs.Room.{whole, lanes, Buffers}
+use Rattle.block_sums.specs.Room.{whole, lanes, BlockBuffers}
 use Rattle.block_sums.proofs.Taps.{most-taps}
 use Rattle.convolve.specs.Lines.{short}
 
 -- buffers of the same sizes, and no more elements
-pub room-still : {line line′ acc acc′ : List Float} {stride most m : ℕ} → Buffers line acc stride most → length line′ ≡ length line → length acc′ ≡ length acc → 0 < m → m ≤ most →
-    Buffers line′ acc′ stride m
+pub room-still : {line line′ acc acc′ : List Float} {stride most m : ℕ} → BlockBuffers line acc stride most → length line′ ≡ length line → length acc′ ≡ length acc → 0 < m → m ≤ most →
+    BlockBuffers line′ acc′ stride m
 room-still {stride = stride} {most = most} {m = m} b l a s h =
     let more : m + (maxTaps - 1) ≤ most + (maxTaps - 1) = omega arith in
     record {
@@ -35,7 +35,7 @@ short-room {weights} w m stride l a h r =
     (omega (arith, mul-le-mul k r), omega (arith, mul-le-mul h r))
 
 -- elements of any size, at most 1024 sums of whole ones
-pub long-room : {v : Float} {stride w : ℕ} → 0 < stride → w ≡ min stride whole → Buffers (replicate 8192 v) (replicate 1024 v) stride (1024 / w)
+pub long-room : {v : Float} {stride w : ℕ} → 0 < stride → w ≡ min stride whole → BlockBuffers (replicate 8192 v) (replicate 1024 v) stride (1024 / w)
 unfolding maxTaps
 long-room {v} {stride} {w} z e =
     let l = length-replicate 8192 v in

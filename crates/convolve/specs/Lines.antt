@@ -8,7 +8,7 @@ use Rattle.picture.specs.Sizes.{sideRoom}
 use Rattle.passes.specs.Kernel.{Kernel}
 
 -- lines one after the other, and as many bytes for what is made of them
-pub record Lines (src dst : List ℕ) (weights : List Float) (lines len stride : ℕ) : Type 0 where
+pub record ConvolveLines (src dst : List ℕ) (weights : List Float) (lines len stride : ℕ) : Type 0 where
   pub kernel : Kernel weights
   pub len-low : 0 < len
   pub len-high : len ≤ sideRoom

@@ -5,11 +5,10 @@ ghost use lib.ListN.{length, getD};
 ghost use Rattle.picture.specs.Sizes.{levelBytes, Sized};
 ghost use Rattle.passes.specs.Passes.{convolve};
 ghost use Rattle.passes.specs.Levels.{levelPass};
-ghost use Rattle.passes.specs.Written.{passed};
-ghost use Rattle.block_sums.specs.Bytes.{lineByte};
+ghost use Rattle.passes.specs.Written.{lineByte, passed};
 ghost use Rattle.passes.specs.Kernel.{Kernel};
-ghost use Rattle.block_sums.specs.Room.{Source, whole, Buffers};
-ghost use Rattle.convolve.specs.Lines.{Lines, short};
+ghost use Rattle.block_sums.specs.Room.{Source, whole, BlockBuffers};
+ghost use Rattle.convolve.specs.Lines.{ConvolveLines, short};
 use picture::EdgeMode;
 use picture::LevelSize;
 
@@ -38,8 +37,8 @@ fn convolve_line(
     weights: &[f32],
     mode: EdgeMode,
 )
-    requires { ⌜ Source (now src) (now weights) start len stride ⌝ ∗ ⌜ len * stride ≤ length (now dst) ⌝ ∗ ⌜ Buffers (now line) (now acc) stride most ⌝ }
-    ensures { λ _. ⌜ ((j : ℕ) → j < len * stride → getD (now (dst .exit)) j 0 ≡ lineByte mode (now (weights .entry)) (now (src .entry)) start len stride j) ⌝ }
+    requires { ⌜ Source (now src) (now weights) start len stride ⌝ ∗ ⌜ len * stride ≤ length (now dst) ⌝ ∗ ⌜ BlockBuffers (now line) (now acc) stride most ⌝ }
+    ensures { λ _. ⌜ ((j : ℕ) → j < len * stride → getD (now (dst .exit)) j 0 ≡ lineByte (convolve mode (now (weights .entry))) (now (src .entry)) start len stride j) ⌝ }
 {
     let mut x = 0;
     while x < len {
@@ -62,7 +61,7 @@ fn each_line(
     weights: &[f32],
     mode: EdgeMode,
 )
-    requires { ⌜ Lines (now src) (now dst) (now weights) lines len stride ⌝ ∗ ⌜ Buffers (now line) (now acc) stride most ⌝ }
+    requires { ⌜ ConvolveLines (now src) (now dst) (now weights) lines len stride ⌝ ∗ ⌜ BlockBuffers (now line) (now acc) stride most ⌝ }
     ensures { λ _. ⌜ now (dst .exit) ≡ passed (convolve mode (now (weights .entry))) (now (src .entry)) lines len len stride ⌝ }
 {
     let mut y = 0;
@@ -95,7 +94,7 @@ fn convolve_short(
     weights: &[f32],
     mode: EdgeMode,
 )
-    requires { ⌜ Lines (now src) (now dst) (now weights) lines len stride ⌝ ∗ ⌜ (len ≤ short) × (stride ≤ whole) ⌝ }
+    requires { ⌜ ConvolveLines (now src) (now dst) (now weights) lines len stride ⌝ ∗ ⌜ (len ≤ short) × (stride ≤ whole) ⌝ }
     ensures { λ _. ⌜ now (dst .exit) ≡ passed (convolve mode (now (weights .entry))) (now (src .entry)) lines len len stride ⌝ }
 {
     let mut line = [0.0f32; SHORT_LINE];
@@ -131,7 +130,7 @@ fn convolve_long(
     weights: &[f32],
     mode: EdgeMode,
 )
-    requires { ⌜ Lines (now src) (now dst) (now weights) lines len stride ⌝ }
+    requires { ⌜ ConvolveLines (now src) (now dst) (now weights) lines len stride ⌝ }
     ensures { λ _. ⌜ now (dst .exit) ≡ passed (convolve mode (now (weights .entry))) (now (src .entry)) lines len len stride ⌝ }
 {
     let most = SUMS / blocks::least(stride, block_sums::WHOLE);
@@ -162,7 +161,7 @@ fn convolve_lines(
     weights: &[f32],
     mode: EdgeMode,
 )
-    requires { ⌜ Lines (now src) (now dst) (now weights) lines len stride ⌝ }
+    requires { ⌜ ConvolveLines (now src) (now dst) (now weights) lines len stride ⌝ }
     ensures { λ _. ⌜ now (dst .exit) ≡ passed (convolve mode (now (weights .entry))) (now (src .entry)) lines len len stride ⌝ }
 {
     if SHORT < len {
@@ -176,7 +175,7 @@ fn convolve_lines(
 
 // The rows of a level. Rows of one pixel are taken as one line of one element, so that the lanes are filled.
 fn convolve_rows(src: &[u8], dst: &mut [u8], w: usize, h: usize, weights: &[f32], mode: EdgeMode)
-    requires { ⌜ 0 < h ⌝ ∗ ⌜ Lines (now src) (now dst) (now weights) h w 4 ⌝ }
+    requires { ⌜ 0 < h ⌝ ∗ ⌜ ConvolveLines (now src) (now dst) (now weights) h w 4 ⌝ }
     ensures { λ _. ⌜ now (dst .exit) ≡ passed (convolve mode (now (weights .entry))) (now (src .entry)) h w w 4 ⌝ }
 {
     if w == 1 {

@@ -24,7 +24,7 @@ use Rattle.decimate.specs.declared.Resize.{Resize}
 use Rattle.decimate.specs.declared.Resize.the-variants.{Halve, Double}
 use Rattle.decimate.specs.declared.Rows.{Rows}
 use Rattle.decimate.specs.Resize.{passOf, rowsOf}
-use Rattle.decimate.specs.Room.{Lines, Levels, Buffers}
+use Rattle.decimate.specs.Room.{ResizeLines, Levels, LevelBuffers}
 
 -- a level's bytes are h rows of w pixels, and one line of h rows
 rows-bytes : (w h : ℕ) → bytesOf w h ≡ h * (w * 4)
@@ -48,9 +48,9 @@ module _ {w v : ℕ} (wl : 0 < w) (vl : 0 < v) (h : ℕ) where
       by false e = all
 
   -- they are all of either buffer, ..
-  pub rows-fit : {kind : Resize} {src dst : List ℕ} → Lines kind src dst h w v 4 → Lines kind src dst (rowsOf w h v .lines) w v (rowsOf w h v .stride)
+  pub rows-fit : {kind : Resize} {src dst : List ℕ} → ResizeLines kind src dst h w v 4 → ResizeLines kind src dst (rowsOf w h v .lines) w v (rowsOf w h v .stride)
   rows-fit {kind} {src} {dst} r =
-      rows-by (λ rows. Lines kind src dst (rows .lines) w v (rows .stride))
+      rows-by (λ rows. ResizeLines kind src dst (rows .lines) w v (rows .stride))
       (λ ew ev.
       record {
         some = omega arith;
@@ -73,7 +73,7 @@ module _ {w v : ℕ} (wl : 0 < w) (vl : 0 < v) (h : ℕ) where
 module _ {kind : Resize} {picture scratch : List ℕ} {s t : LevelSize} (r : Levels kind picture scratch s t) where
   pub rows-lines :
       let rows = rowsOf (s .w) (s .h) (t .w) in
-      Lines kind (take (levelBytes s) picture) (take (s .h * (t .w * 4)) scratch) (rows .lines) (s .w) (t .w) (rows .stride)
+      ResizeLines kind (take (levelBytes s) picture) (take (s .h * (t .w * 4)) scratch) (rows .lines) (s .w) (t .w) (rows .stride)
   rows-lines =
       rows-fit (r .s-sized .w-low) (r .t-sized .w-low) (s .h)
       record {
@@ -86,7 +86,7 @@ module _ {kind : Resize} {picture scratch : List ℕ} {s t : LevelSize} (r : Lev
         dst-length = length-take-le _ _ (r .between-fits);
       }
 
-  pub cols-lines : {src : List ℕ} → length src ≡ s .h * (t .w * 4) → Lines kind src (take (levelBytes t) picture) 1 (s .h) (t .h) (4 * t .w)
+  pub cols-lines : {src : List ℕ} → length src ≡ s .h * (t .w * 4) → ResizeLines kind src (take (levelBytes t) picture) 1 (s .h) (t .h) (4 * t .w)
   cols-lines n =
       record {
         some = omega arith;
@@ -117,7 +117,7 @@ whole n l e = take-all n l (omega arith)
 between : (w h v u : ℕ) → v ≤ w → u ≤ h → u * (v * 4) ≤ bytesOf w h
 between w h v u a b = rw (rows-bytes w h) (mul-le-mul {n₁ = u} {m₁ = v * 4} {n₂ = h} {m₂ = w * 4} b (omega arith))
 
-module _ {picture scratch : List ℕ} {s : LevelSize} (b : Buffers picture scratch s) where
+module _ {picture scratch : List ℕ} {s : LevelSize} (b : LevelBuffers picture scratch s) where
   small : levelBytes (halfLevel s) ≤ levelBytes s
   small = half-fits s (b .sized)
 

@@ -9,7 +9,7 @@ use Rattle.decimate.specs.declared.Resize.{Resize}
 use Rattle.decimate.specs.Resize.{Makes}
 
 -- lines of len elements are all of src, and as many of out elements all of dst
-pub record Lines (kind : Resize) (src dst : List ℕ) (lines len out stride : ℕ) : Type 0 where
+pub record ResizeLines (kind : Resize) (src dst : List ℕ) (lines len out stride : ℕ) : Type 0 where
   pub some : 0 < lines
   pub stride-low : 0 < stride
   pub len-low : 0 < len
@@ -29,7 +29,7 @@ pub record Levels (kind : Resize) (picture scratch : List ℕ) (s t : LevelSize)
   pub between-fits : s .h * (t .w * 4) ≤ length scratch
 
 -- a level, and two buffers that are just as long
-pub record Buffers (picture scratch : List ℕ) (s : LevelSize) : Type 0 where
+pub record LevelBuffers (picture scratch : List ℕ) (s : LevelSize) : Type 0 where
   pub sized : Sized s
   pub picture-length : length picture ≡ levelBytes s
   pub scratch-length : length scratch ≡ levelBytes s

@@ -3,12 +3,13 @@ ghost use mathlib.Core.Path.{_≡_};
 ghost use Prim.Native.Nat.{_+_, _*_, _≤_, _<_};
 ghost use lib.ListN.{take};
 ghost use Rattle.picture.specs.Sizes.{sideRoom, halfLevel, levelBytes};
+ghost use Rattle.picture.specs.Spans.{Run};
 ghost use Rattle.passes.specs.Passes.{halve, double};
-ghost use Rattle.passes.specs.Written.{lane, passed, Run};
+ghost use Rattle.passes.specs.Written.{lane, passed};
 ghost use Rattle.passes.specs.Levels.{levelPass};
-ghost use Rattle.blend.specs.Made.{Room, Made, MadeInside};
+ghost use Rattle.blend.specs.Parts.{Room, PassPart, PassPartInside};
 ghost use Rattle.decimate.specs.Resize.{passOf, Makes, innerFrom, innerTo, rowsOf};
-ghost use Rattle.decimate.specs.Room.{Lines, Levels, Buffers};
+ghost use Rattle.decimate.specs.Room.{ResizeLines, Levels, LevelBuffers};
 use blend::double_element;
 use blend::double_end;
 use blend::double_pixel;
@@ -43,7 +44,7 @@ fn resize_element(
     kind: Resize,
 )
     requires { ⌜ (y < 2 * sideRoom) × Room (now src) (now dst) start stride len o 1 ⌝ }
-    ensures { λ _. ⌜ Run (now (dst .entry)) (now (dst .exit)) o stride (λ k. passOf kind mode len (lane (now (src .entry)) start stride k) y) ⌝ }
+    ensures { λ _. ⌜ Run 0 (now (dst .entry)) (now (dst .exit)) o stride (λ k. passOf kind mode len (lane (now (src .entry)) start stride k) y) ⌝ }
 {
     match kind {
         Resize::Halve => halve_element(src, start, stride, len, dst, o, y, mode),
@@ -65,7 +66,7 @@ fn resize_part(
     kind: Resize,
 )
     requires { ⌜ (from ≤ to) × (to ≤ 2 * sideRoom) × Room (now src) (now dst) start stride len o to ⌝ }
-    ensures { λ _. ⌜ Made (passOf kind mode) (now (src .entry)) (now (dst .entry)) (now (dst .exit)) start stride len o from to ⌝ }
+    ensures { λ _. ⌜ PassPart (passOf kind mode) (now (src .entry)) (now (dst .entry)) (now (dst .exit)) start stride len o from to ⌝ }
 {
     let mut y: usize = from;
     while y < to {
@@ -86,7 +87,7 @@ fn resize_end(
     kind: Resize,
 )
     requires { ⌜ (y < 2 * sideRoom) × Room (now src) (now dst) start 4 len o 1 ⌝ }
-    ensures { λ _. ⌜ Run (now (dst .entry)) (now (dst .exit)) o 4 (λ k. passOf kind mode len (lane (now (src .entry)) start 4 k) y) ⌝ }
+    ensures { λ _. ⌜ Run 0 (now (dst .entry)) (now (dst .exit)) o 4 (λ k. passOf kind mode len (lane (now (src .entry)) start 4 k) y) ⌝ }
 {
     match kind {
         Resize::Halve => halve_end(src, start, len, dst, o, y, mode),
@@ -107,7 +108,7 @@ fn resize_ends(
     kind: Resize,
 )
     requires { ⌜ (from ≤ to) × (to ≤ 2 * sideRoom) × Room (now src) (now dst) start 4 len o to ⌝ }
-    ensures { λ _. ⌜ Made (passOf kind mode) (now (src .entry)) (now (dst .entry)) (now (dst .exit)) start 4 len o from to ⌝ }
+    ensures { λ _. ⌜ PassPart (passOf kind mode) (now (src .entry)) (now (dst .entry)) (now (dst .exit)) start 4 len o from to ⌝ }
 {
     let mut y: usize = from;
     while y < to {
@@ -140,7 +141,7 @@ fn inner_to(len: usize, kind: Resize) -> usize
 // The outputs of a row, halved, whose samples lie inside, ..
 fn halve_inner(src: &[u8], start: usize, len: usize, dst: &mut [u8], o: usize)
     requires { ⌜ (2 < len) × Room (now src) (now dst) start 4 len o (innerTo Resize.Halve len) ⌝ }
-    ensures { λ _. ⌜ MadeInside halve (now (src .entry)) (now (dst .entry)) (now (dst .exit)) start len o (innerFrom Resize.Halve) (innerTo Resize.Halve len) ⌝ }
+    ensures { λ _. ⌜ PassPartInside halve (now (src .entry)) (now (dst .entry)) (now (dst .exit)) start len o (innerFrom Resize.Halve) (innerTo Resize.Halve len) ⌝ }
 {
     let mut x: usize = 1;
     while 2 * x + 2 < len {
@@ -152,7 +153,7 @@ fn halve_inner(src: &[u8], start: usize, len: usize, dst: &mut [u8], o: usize)
 // .. and those of a row, doubled: two to a pixel.
 fn double_inner(src: &[u8], start: usize, len: usize, dst: &mut [u8], o: usize)
     requires { ⌜ (2 < len) × Room (now src) (now dst) start 4 len o (innerTo Resize.Double len) ⌝ }
-    ensures { λ _. ⌜ MadeInside double (now (src .entry)) (now (dst .entry)) (now (dst .exit)) start len o (innerFrom Resize.Double) (innerTo Resize.Double len) ⌝ }
+    ensures { λ _. ⌜ PassPartInside double (now (src .entry)) (now (dst .entry)) (now (dst .exit)) start len o (innerFrom Resize.Double) (innerTo Resize.Double len) ⌝ }
 {
     let mut x: usize = 1;
     while x + 1 < len {
@@ -164,7 +165,7 @@ fn double_inner(src: &[u8], start: usize, len: usize, dst: &mut [u8], o: usize)
 // The outputs of a row whose samples lie inside, by kind.
 fn resize_inner(src: &[u8], start: usize, len: usize, dst: &mut [u8], o: usize, kind: Resize)
     requires { ⌜ (2 < len) × Room (now src) (now dst) start 4 len o (innerTo kind len) ⌝ }
-    ensures { λ _. ⌜ MadeInside (passOf kind) (now (src .entry)) (now (dst .entry)) (now (dst .exit)) start len o (innerFrom kind) (innerTo kind len) ⌝ }
+    ensures { λ _. ⌜ PassPartInside (passOf kind) (now (src .entry)) (now (dst .entry)) (now (dst .exit)) start len o (innerFrom kind) (innerTo kind len) ⌝ }
 {
     match kind {
         Resize::Halve => halve_inner(src, start, len, dst, o),
@@ -184,7 +185,7 @@ fn resize_row(
     kind: Resize,
 )
     requires { ⌜ (2 < len) × Makes kind len out × Room (now src) (now dst) start 4 len o out ⌝ }
-    ensures { λ _. ⌜ Made (passOf kind mode) (now (src .entry)) (now (dst .entry)) (now (dst .exit)) start 4 len o 0 out ⌝ }
+    ensures { λ _. ⌜ PassPart (passOf kind mode) (now (src .entry)) (now (dst .entry)) (now (dst .exit)) start 4 len o 0 out ⌝ }
 {
     let from = inner_from(kind);
     let to = inner_to(len, kind);
@@ -206,7 +207,7 @@ fn resize_line(
     kind: Resize,
 )
     requires { ⌜ Makes kind len out × Room (now src) (now dst) start stride len o out ⌝ }
-    ensures { λ _. ⌜ Made (passOf kind mode) (now (src .entry)) (now (dst .entry)) (now (dst .exit)) start stride len o 0 out ⌝ }
+    ensures { λ _. ⌜ PassPart (passOf kind mode) (now (src .entry)) (now (dst .entry)) (now (dst .exit)) start stride len o 0 out ⌝ }
 {
     if stride == 4 {
         if 2 < len {
@@ -231,7 +232,7 @@ pub fn resize_lines(
     mode: EdgeMode,
     kind: Resize,
 )
-    requires { ⌜ Lines kind (now src) (now dst) lines len out stride ⌝ }
+    requires { ⌜ ResizeLines kind (now src) (now dst) lines len out stride ⌝ }
     ensures { λ _. ⌜ now (dst .exit) ≡ passed (passOf kind mode) (now (src .entry)) lines len out stride ⌝ }
 {
     let read = len * stride;
@@ -305,7 +306,7 @@ fn resize_level(
 
 // The level of size s, halved: its bytes are the first of the picture.
 pub fn halve_level(picture: &mut [u8], scratch: &mut [u8], s: LevelSize, mode: EdgeMode)
-    requires { ⌜ Buffers (now picture) (now scratch) s ⌝ }
+    requires { ⌜ LevelBuffers (now picture) (now scratch) s ⌝ }
     ensures { λ _. ⌜ take (levelBytes (halfLevel s)) (now (picture .exit)) ≡ levelPass (halve mode) s (halfLevel s) (now (picture .entry)) ⌝ }
 {
     resize_level(picture, scratch, s, s.half(), mode, Resize::Halve);
@@ -313,7 +314,7 @@ pub fn halve_level(picture: &mut [u8], scratch: &mut [u8], s: LevelSize, mode: E
 
 // The half of the level of size s, doubled: its bytes are the first of the picture.
 pub fn double_level(picture: &mut [u8], scratch: &mut [u8], s: LevelSize, mode: EdgeMode)
-    requires { ⌜ Buffers (now picture) (now scratch) s ⌝ }
+    requires { ⌜ LevelBuffers (now picture) (now scratch) s ⌝ }
     ensures { λ _. ⌜ now (picture .exit) ≡ levelPass (double mode) (halfLevel s) s (take (levelBytes (halfLevel s)) (now (picture .entry))) ⌝ }
 {
     resize_level(picture, scratch, s.half(), s, mode, Resize::Double);

@@ -1,3 +1,2 @@
 -- Laws of lanes, for this crate's proofs and for those above it.
-pub mod Spans
 pub mod Taps

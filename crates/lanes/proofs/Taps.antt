@@ -9,7 +9,7 @@ use lib.Ieee.{Float, nan}
 use lib.ListN.{length, getD}
 use Rattle.binary32.specs.Ranges.{zero32}
 use Rattle.binary32.specs.Taps.{tap, taps}
-use Rattle.lanes.specs.Lanes.{widened, plus, weighted, laneSum, Reaches}
+use Rattle.lanes.specs.Lanes.{widened, addTap, weighted, laneSum, Reaches}
 
 -- tap j reads within the line
 pub reach : {line weights : List Float} {a step n : ℕ} → Reaches line weights a step n → (j : ℕ) → j < length weights → a + j * step + n ≤ length line
@@ -17,19 +17,19 @@ reach {line} {weights} {a} {step} {n} r j l =
     omega (arith, r .last, mul-le-mul-right {m = j + 1} {n = length weights} step (omega arith), add-mul j 1 step, one-mul step)
 
 module _ (line : List Float) (a step : ℕ) (weights : List Float) (i : ℕ) where
-  pub sum-first : plus zero32 (getD line (a + i) nan) (getD weights 0 nan) ≡ laneSum line a step weights 1 i
+  pub sum-first : addTap zero32 (getD line (a + i) nan) (getD weights 0 nan) ≡ laneSum line a step weights 1 i
   unfolding weighted
-  sum-first = ap (λ (m : ℕ). plus zero32 (getD line m nan) (getD weights 0 nan)) (omega (arith, zero-mul step))
+  sum-first = ap (λ (m : ℕ). addTap zero32 (getD line m nan) (getD weights 0 nan)) (omega (arith, zero-mul step))
 
   -- one tap more
   pub sum-more : {s : Float} (j : ℕ) {m : ℕ} → s ≡ laneSum line a step weights j i → m ≡ a + j * step →
-      plus s (getD line (m + i) nan) (getD weights j nan) ≡ laneSum line a step weights (j + 1) i
+      addTap s (getD line (m + i) nan) (getD weights j nan) ≡ laneSum line a step weights (j + 1) i
   unfolding weighted
   sum-more j e h = rw (e, h, add-one)
 
   -- two taps more
   pub sum-two : {s : Float} (j : ℕ) {m : ℕ} → s ≡ laneSum line a step weights j i → m ≡ a + j * step →
-      plus (plus s (getD line (m + i) nan) (getD weights j nan)) (getD line (m + step + i) nan) (getD weights (j + 1) nan) ≡ laneSum line a step weights (j + 2) i
+      addTap (addTap s (getD line (m + i) nan) (getD weights j nan)) (getD line (m + step + i) nan) (getD weights (j + 1) nan) ≡ laneSum line a step weights (j + 2) i
   sum-two j {m} e h =
       sum-more (j + 1) (sum-more j e h) (omega (arith, add-mul j 1 step, one-mul step))
       ∙ ap (λ (k : ℕ). laneSum line a step weights k i) (omega arith)

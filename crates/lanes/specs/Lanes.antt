@@ -1,5 +1,4 @@
 -- Lanes: values in a row, which one loop works on alike, and the weighted sums of those that stand a step apart.
-use mathlib.Core.Path.{_≡_}
 use mathlib.Core.List.{List}
 use Prim.Native.Nat.{ℕ, zero, suc, _+_, _*_, _≤_, _<_}
 use lib.IntN.{pos}
@@ -7,25 +6,18 @@ use lib.Ieee.{Float, nan, binary32, add, mul, ofInt}
 use lib.ListN.{length, getD}
 use Rattle.binary32.specs.Ranges.{zero32}
 
--- the values from a up to b are f a, .., f (b - 1), and no other has changed
-pub record Span {A : Type 0} (none : A) (old new : List A) (a b : ℕ) (f : ℕ → A) : Type 0 where
-  pub size : length new ≡ length old
-  pub inside : (i : ℕ) → a ≤ i → i < b → getD new i none ≡ f i
-  pub below : (i : ℕ) → i < a → getD new i none ≡ getD old i none
-  pub above : (i : ℕ) → b ≤ i → getD new i none ≡ getD old i none
-
 -- a byte as a float
 abbrev pub widened : ℕ → Float
 widened b = ofInt binary32 (pos b)
 
 -- a sum and the product of a value and its weight: one operation each
-abbrev pub plus : Float → Float → Float → Float
-plus sum p k = add binary32 sum (mul binary32 p k)
+abbrev pub addTap : Float → Float → Float → Float
+addTap sum p k = add binary32 sum (mul binary32 p k)
 
 -- the sum of the first n values, each in its weight, from 0.0 and in order
 unfoldable pub weighted : (ℕ → Float) → (ℕ → Float) → ℕ → Float
 weighted p k zero = zero32
-weighted p k (suc n) = plus (weighted p k n) (p n) (k n)
+weighted p k (suc n) = addTap (weighted p k n) (p n) (k n)
 
 -- the sum of lane i under the first n weights: under weight j stands the value that is j steps on from a + i
 abbrev pub laneSum : List Float → ℕ → ℕ → List Float → ℕ → ℕ → Float

@@ -1,17 +1,18 @@
 // Loops over lanes: bytes made floats, weighted sums of floats, and sums made bytes.
 ghost use mathlib.Core.Path.{_≡_};
-ghost use Prim.Native.Nat.{ℕ, _+_, _-_, _*_, _≤_, _<_};
+ghost use Prim.Native.Nat.{ℕ, _+_, _≤_, _<_};
 ghost use lib.Dec.{T};
 ghost use lib.Ieee.{nan};
 ghost use lib.ListN.{length, getD};
 ghost use Rattle.binary32.specs.Ranges.{zero32, nonneg};
 ghost use Rattle.binary32.specs.Round.{toByte};
-ghost use Rattle.lanes.specs.Lanes.{Span, widened, plus, laneSum, Reaches};
+ghost use Rattle.picture.specs.Spans.{Run};
+ghost use Rattle.lanes.specs.Lanes.{widened, addTap, laneSum, Reaches};
 
 // n bytes from s on, as floats from a on.
 pub fn widen(line: &mut [f32], a: usize, n: usize, src: &[u8], s: usize)
     requires { ⌜ a + n ≤ length (now line) ⌝ ∗ ⌜ s + n ≤ length (now src) ⌝ }
-    ensures { λ _. ⌜ Span nan (now (line .entry)) (now (line .exit)) a (a + n) (λ i. widened (getD (now (src .entry)) (s + (i - a)) 0)) ⌝ }
+    ensures { λ _. ⌜ Run nan (now (line .entry)) (now (line .exit)) a n (λ i. widened (getD (now (src .entry)) (s + i) 0)) ⌝ }
 {
     let mut i = 0;
     while i < n {
@@ -23,7 +24,7 @@ pub fn widen(line: &mut [f32], a: usize, n: usize, src: &[u8], s: usize)
 // n zeros from a on.
 pub fn clear(line: &mut [f32], a: usize, n: usize)
     requires { ⌜ a + n ≤ length (now line) ⌝ }
-    ensures { λ _. ⌜ Span nan (now (line .entry)) (now (line .exit)) a (a + n) (λ _. zero32) ⌝ }
+    ensures { λ _. ⌜ Run nan (now (line .entry)) (now (line .exit)) a n (λ _. zero32) ⌝ }
 {
     let mut i = 0;
     while i < n {
@@ -35,7 +36,7 @@ pub fn clear(line: &mut [f32], a: usize, n: usize)
 // The first tap of n sums.
 fn first_tap(acc: &mut [f32], n: usize, line: &[f32], a: usize, k: f32)
     requires { ⌜ n ≤ length (now acc) ⌝ ∗ ⌜ a + n ≤ length (now line) ⌝ }
-    ensures { λ _. ⌜ Span nan (now (acc .entry)) (now (acc .exit)) 0 n (λ i. plus zero32 (getD (now (line .entry)) (a + i) nan) k) ⌝ }
+    ensures { λ _. ⌜ Run nan (now (acc .entry)) (now (acc .exit)) 0 n (λ i. addTap zero32 (getD (now (line .entry)) (a + i) nan) k) ⌝ }
 {
     let mut i = 0;
     while i < n {
@@ -47,7 +48,7 @@ fn first_tap(acc: &mut [f32], n: usize, line: &[f32], a: usize, k: f32)
 // One more tap.
 fn add_tap(acc: &mut [f32], n: usize, line: &[f32], a: usize, k: f32)
     requires { ⌜ n ≤ length (now acc) ⌝ ∗ ⌜ a + n ≤ length (now line) ⌝ }
-    ensures { λ _. ⌜ Span nan (now (acc .entry)) (now (acc .exit)) 0 n (λ i. plus (getD (now (acc .entry)) i nan) (getD (now (line .entry)) (a + i) nan) k) ⌝ }
+    ensures { λ _. ⌜ Run nan (now (acc .entry)) (now (acc .exit)) 0 n (λ i. addTap (getD (now (acc .entry)) i nan) (getD (now (line .entry)) (a + i) nan) k) ⌝ }
 {
     let mut i = 0;
     while i < n {
@@ -59,7 +60,7 @@ fn add_tap(acc: &mut [f32], n: usize, line: &[f32], a: usize, k: f32)
 // Two more, one after the other.
 fn add_two(acc: &mut [f32], n: usize, line: &[f32], a: usize, k: f32, b: usize, l: f32)
     requires { ⌜ n ≤ length (now acc) ⌝ ∗ ⌜ a + n ≤ length (now line) ⌝ ∗ ⌜ b + n ≤ length (now line) ⌝ }
-    ensures { λ _. ⌜ Span nan (now (acc .entry)) (now (acc .exit)) 0 n (λ i. plus (plus (getD (now (acc .entry)) i nan) (getD (now (line .entry)) (a + i) nan) k) (getD (now (line .entry)) (b + i) nan) l) ⌝ }
+    ensures { λ _. ⌜ Run nan (now (acc .entry)) (now (acc .exit)) 0 n (λ i. addTap (addTap (getD (now (acc .entry)) i nan) (getD (now (line .entry)) (a + i) nan) k) (getD (now (line .entry)) (b + i) nan) l) ⌝ }
 {
     let mut i = 0;
     while i < n {
@@ -88,7 +89,7 @@ fn sums(acc: &mut [f32], n: usize, line: &[f32], a: usize, step: usize, weights:
 // n sums as bytes from o on.
 fn round_lanes(dst: &mut [u8], o: usize, n: usize, acc: &[f32])
     requires { ⌜ o + n ≤ length (now dst) ⌝ ∗ ⌜ n ≤ length (now acc) ⌝ ∗ ⌜ ((i : ℕ) → i < n → T (nonneg (getD (now acc) i nan))) ⌝ }
-    ensures { λ _. ⌜ Span 0 (now (dst .entry)) (now (dst .exit)) o (o + n) (λ j. toByte (getD (now (acc .entry)) (j - o) nan)) ⌝ }
+    ensures { λ _. ⌜ Run 0 (now (dst .entry)) (now (dst .exit)) o n (λ i. toByte (getD (now (acc .entry)) i nan)) ⌝ }
 {
     let mut i = 0;
     while i < n {
@@ -110,7 +111,7 @@ pub fn weigh(
 )
     requires { ⌜ o + n ≤ length (now dst) ⌝ ∗ ⌜ n ≤ length (now acc) ⌝ ∗ ⌜ Reaches (now line) (now weights) a step n ⌝
         ∗ ⌜ ((i : ℕ) → i < n → T (nonneg (laneSum (now line) a step (now weights) (length (now weights)) i))) ⌝ }
-    ensures { λ _. ⌜ Span 0 (now (dst .entry)) (now (dst .exit)) o (o + n) (λ j. toByte (laneSum (now (line .entry)) a step (now (weights .entry)) (length (now (weights .entry))) (j - o))) ⌝ }
+    ensures { λ _. ⌜ Run 0 (now (dst .entry)) (now (dst .exit)) o n (λ i. toByte (laneSum (now (line .entry)) a step (now (weights .entry)) (length (now (weights .entry))) i)) ⌝ }
 {
     sums(acc, n, line, a, step, weights);
     round_lanes(dst, o, n, acc);

@@ -7,5 +7,6 @@ pub mod Build
 pub mod Planes
 pub mod Placed
 pub mod Walk
+pub mod Spans
 pub mod Passed
 pub mod Answers

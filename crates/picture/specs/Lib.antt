@@ -1,5 +1,6 @@
 -- The definitions that contracts cite of a picture: its sizes, its bytes, its edge rules, its refusals, and what a call leaves.
 pub mod Build
+pub mod Spans
 pub mod Planes
 pub mod Buffers
 pub mod Sizes

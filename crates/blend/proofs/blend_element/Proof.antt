@@ -3,16 +3,16 @@ use mathlib.Core.Path.{_≡_, refl}
 use Prim.Native.Nat.{_≤_, _-_}
 use native.Mathlib.Omega.{arith}
 use denote.Ref.{now}
-use lib.ListN.{length, length-set}
-use Rattle.passes.specs.Written.{Run}
-use Rattle.passes.proofs.Written.{run-none, run-more, run-same}
+use lib.ListN.{length}
+use Rattle.picture.specs.Spans.{Run}
+use Rattle.picture.proofs.Spans.{span-none, span-more, span-same}
 use Rattle.blend.proofs.Taps.{weighted, Fit, taps-fit, taps-mix}
 use Rattle.blend.proofs.blend_element.Statement.{statement}
 use Rattle.blend.proofs.blend_element.Tie as tie
 
 abbrev Inv-loop : tie.InvT-loop
 Inv-loop src start stride dst₀ o ta tb tc td at-a at-b at-c at-d k₀ dst k =
-    (k ≤ stride) × (length dst ≡ length dst₀) × Run dst₀ dst o k (weighted src ta tb tc td) × Fit ta tb tc td stride (length src)
+    (k ≤ stride) × Run 0 dst₀ dst o k (weighted src ta tb tc td) × Fit ta tb tc td stride (length src)
 
 abbrev μ-loop : tie.MeasureT-loop
 μ-loop src start stride dst₀ o ta tb tc td at-a at-b at-c at-d k₀ dst k = stride - k
@@ -33,7 +33,7 @@ loop-holds : tie.Need-loop-holds Inv-loop μ-loop
 loop-holds c =
     let st = c .before .before .before .before .before .before in
     let a = st .args in
-    (omega arith, refl, run-none, taps-fit (a .a) (a .b) (a .c) (a .d) (now (a .src)) (a .start) (a .stride) (c .before .before .before .tap-of .ensures) (c .before .before .tap-of2 .ensures) (c .before .tap-of3 .ensures) (c .tap-of4 .ensures) (st .pre))
+    (omega arith, span-none (omega arith), taps-fit (a .a) (a .b) (a .c) (a .d) (now (a .src)) (a .start) (a .stride) (c .before .before .before .tap-of .ensures) (c .before .before .tap-of2 .ensures) (c .before .tap-of3 .ensures) (c .tap-of4 .ensures) (st .pre))
 
 add-blend : tie.Need-add-blend Inv-loop μ-loop
 add-blend c = omega arith
@@ -77,10 +77,10 @@ loop-less c = omega arith
 loop-again : tie.Need-loop-again Inv-loop μ-loop
 loop-again c =
     let l = c .before .before .before .before .before .before .loop .inv in
-    (omega arith, simp length-set (l .1), run-more (l .2) (omega arith) (c .blend .ensures), l .3)
+    (omega arith, span-more (l .1) (omega arith) (omega arith) refl (c .blend .ensures), l .2)
 
 same-length : tie.Need-same-length Inv-loop μ-loop
-same-length c = c .before .loop .inv .1
+same-length c = c .before .loop .inv .1 .size
 
 returns : tie.Need-returns Inv-loop μ-loop
 returns c =
@@ -90,8 +90,8 @@ returns c =
     let t1 = t2 .before in
     let a = t1 .before .before .before .args in
     let e : c .before .loop .k ≡ a .stride = omega arith in
-    run-same (rw e at (c .before .loop .inv .2))
-    (λ k _. taps-mix (a .a) (a .b) (a .c) (a .d) (now (a .src)) (a .start) (a .stride) (t1 .tap-of .ensures) (t2 .tap-of2 .ensures) (t3 .tap-of3 .ensures) (t4 .tap-of4 .ensures) k)
+    span-same (rw e at (c .before .loop .inv .1))
+    (λ k _ _. taps-mix (a .a) (a .b) (a .c) (a .d) (now (a .src)) (a .start) (a .stride) (t1 .tap-of .ensures) (t2 .tap-of2 .ensures) (t3 .tap-of3 .ensures) (t4 .tap-of4 .ensures) k)
 
 pub blend-element-spec : {M : Type 1} → statement M
 blend-element-spec =

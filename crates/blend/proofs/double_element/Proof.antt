@@ -3,8 +3,8 @@ use Prim.Native.Nat.{_+_, _/_}
 use native.Mathlib.Omega.{arith}
 use denote.Ref.{now}
 use Rattle.picture.proofs.Sizes.{room-is}
+use Rattle.picture.proofs.Spans.{span-same}
 use Rattle.passes.specs.Written.{lane}
-use Rattle.passes.proofs.Written.{run-same}
 use Rattle.blend.proofs.Places.{places-room}
 use Rattle.blend.proofs.Outputs.{doubled-even, doubled-odd}
 use Rattle.blend.proofs.double_element.Statement.{statement}
@@ -49,8 +49,8 @@ returns c =
     let t1 = i .before in
     let a = t1 .before .before .before .args in
     let even = i .if1 .taken in
-    run-same (b .blend-element .ensures)
-    (λ k _. doubled-even (a .mode) (a .len) (a .y / 2) (a .y) (lane (now (a .src)) (a .start) (a .stride) k) (t1 .find-place .ensures) (omega arith) (t2 .find-place2 .ensures))
+    span-same (b .blend-element .ensures)
+    (λ k _ _. doubled-even (a .mode) (a .len) (a .y / 2) (a .y) (lane (now (a .src)) (a .start) (a .stride) k) (t1 .find-place .ensures) (omega arith) (t2 .find-place2 .ensures))
 
 same-length-2 : tie.Need-same-length-2
 same-length-2 c = c .before .before .blend-element2 .kept .1 .1 .1 .1 .1 .1 .1 .0
@@ -63,8 +63,8 @@ returns-2 c =
     let t1 = i .before in
     let a = t1 .before .before .before .args in
     let odd = i .if1 .left in
-    run-same (b .blend-element2 .ensures)
-    (λ k _. doubled-odd (a .mode) (a .len) (a .y / 2) (a .y) (lane (now (a .src)) (a .start) (a .stride) k) (t1 .find-place .ensures) (omega arith) (t2 .find-place3 .ensures))
+    span-same (b .blend-element2 .ensures)
+    (λ k _ _. doubled-odd (a .mode) (a .len) (a .y / 2) (a .y) (lane (now (a .src)) (a .start) (a .stride) k) (t1 .find-place .ensures) (omega arith) (t2 .find-place3 .ensures))
 
 pub double-element-spec : {M : Type 1} → statement M
 double-element-spec =

@@ -5,8 +5,8 @@ use native.Mathlib.Nat.{add-zero}
 use native.Mathlib.Omega.{arith}
 use denote.Ref.{now}
 use Rattle.picture.proofs.Sizes.{room-is}
+use Rattle.picture.proofs.Spans.{span-same}
 use Rattle.passes.specs.Written.{lane}
-use Rattle.passes.proofs.Written.{run-same}
 use Rattle.blend.proofs.Pixels.{samples-mix}
 use Rattle.blend.proofs.Outputs.{doubles}
 use Rattle.blend.proofs.double_end.Statement.{statement}
@@ -44,8 +44,8 @@ returns c =
     let odd = a .y % 2 in
     let far = s1 .sample-pixel .ensures in
     let near = s2 .sample-pixel2 .ensures in
-    run-same (rw (add-zero (a .o)) at (w .write-pixel .ensures))
-    (λ k l.
+    span-same (rw (add-zero (a .o)) at (w .write-pixel .ensures))
+    (λ k _ l.
     samples-mix (a .mode) (a .len) (now (a .src)) (a .start) (x + odd) (1 - odd) x 0 x 0 (x + odd) (1 - odd) far near near far (m .blend-pixels .ensures) k l
     ∙ doubles (a .mode) (a .len) (lane (now (a .src)) (a .start) 4 k) (a .y))
 

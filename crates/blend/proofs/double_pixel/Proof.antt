@@ -3,9 +3,10 @@ use mathlib.Core.Path.{_≡_, _∙_}
 use Prim.Native.Nat.{_+_, _-_, _*_}
 use native.Mathlib.Omega.{arith}
 use denote.Ref.{now}
+use Rattle.picture.proofs.Spans.{span-same, span-join}
 use Rattle.passes.specs.Passes.{double}
 use Rattle.passes.specs.Written.{lane}
-use Rattle.passes.proofs.Written.{run-same, part-one, part-join}
+use Rattle.passes.proofs.Written.{element-made}
 use Rattle.blend.proofs.Pixels.{pixels-mix}
 use Rattle.blend.proofs.Outputs.{even-inside, odd-inside}
 use Rattle.blend.proofs.double_pixel.Statement.{statement}
@@ -68,15 +69,15 @@ returns c =
     let two : 2 * x + 1 + 1 ≡ 2 * x + 2 = omega arith in
     λ mode.
     rw two at
-    (part-join {f = λ y k. double mode (a .len) (lane src (a .start) 4 k) y} (omega arith) (omega arith)
-    (part-one
-    (run-same (w1 .write-pixel .ensures)
-    (λ k l.
+    (span-join (omega arith) (omega arith)
+    (element-made (double mode) src (a .start) (a .len) 4 (2 * x)
+    (span-same (w1 .write-pixel .ensures)
+    (λ k _ l.
     pixels-mix src (a .start) (x - 1) x x (x - 1) low near near low (m1 .blend-pixels .ensures) k l
     ∙ even-inside mode (a .len) x (lane src (a .start) 4 k) (st .pre .0) (omega arith))))
-    (part-one
-    (run-same (w2 .write-pixel2 .ensures)
-    (λ k l.
+    (element-made (double mode) src (a .start) (a .len) 4 (2 * x + 1)
+    (span-same (w2 .write-pixel2 .ensures)
+    (λ k _ l.
     pixels-mix src (a .start) (x + 1) x x (x + 1) high near near high (m2 .blend-pixels2 .ensures) k l
     ∙ odd-inside mode (a .len) x (lane src (a .start) 4 k) (omega arith)))))
 

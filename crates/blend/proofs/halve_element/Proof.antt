@@ -3,8 +3,8 @@ use Prim.Native.Nat.{_+_, _*_}
 use native.Mathlib.Omega.{arith}
 use denote.Ref.{now}
 use Rattle.picture.proofs.Sizes.{room-is}
+use Rattle.picture.proofs.Spans.{span-same}
 use Rattle.passes.specs.Written.{lane}
-use Rattle.passes.proofs.Written.{run-same}
 use Rattle.blend.proofs.Places.{places-room}
 use Rattle.blend.proofs.Outputs.{halved}
 use Rattle.blend.proofs.halve_element.Statement.{statement}
@@ -62,8 +62,8 @@ returns c =
     let t2 = t3 .before in
     let t1 = t2 .before in
     let a = t1 .before .before .before .args in
-    run-same (b .blend-element .ensures)
-    (λ k _.
+    span-same (b .blend-element .ensures)
+    (λ k _ _.
     halved (a .mode) (a .len) (a .x) (lane (now (a .src)) (a .start) (a .stride) k) (t1 .find-place .ensures) (t2 .find-place2 .ensures) (t3 .find-place3 .ensures) (t4 .find-place4 .ensures))
 
 pub halve-element-spec : {M : Type 1} → statement M

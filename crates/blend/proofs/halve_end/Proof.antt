@@ -5,8 +5,8 @@ use native.Mathlib.Nat.{add-zero}
 use native.Mathlib.Omega.{arith}
 use denote.Ref.{now}
 use Rattle.picture.proofs.Sizes.{room-is}
+use Rattle.picture.proofs.Spans.{span-same}
 use Rattle.passes.specs.Written.{lane}
-use Rattle.passes.proofs.Written.{run-same}
 use Rattle.blend.proofs.Pixels.{samples-mix}
 use Rattle.blend.proofs.Outputs.{halves}
 use Rattle.blend.proofs.halve_end.Statement.{statement}
@@ -51,8 +51,8 @@ returns c =
     let s2 = s3 .before in
     let s1 = s2 .before in
     let a = s1 .before .before .before .args in
-    run-same (rw (add-zero (a .o)) at (w .write-pixel .ensures))
-    (λ k l.
+    span-same (rw (add-zero (a .o)) at (w .write-pixel .ensures))
+    (λ k _ l.
     samples-mix (a .mode) (a .len) (now (a .src)) (a .start) (2 * a .x) 1 (2 * a .x) 0 (2 * a .x + 1) 0 (2 * a .x + 2) 0
     (s1 .sample-pixel .ensures) (s2 .sample-pixel2 .ensures) (s3 .sample-pixel3 .ensures) (s4 .sample-pixel4 .ensures) (m .blend-pixels .ensures) k l
     ∙ halves (a .mode) (a .len) (lane (now (a .src)) (a .start) 4 k) (a .x))

@@ -3,8 +3,10 @@ use mathlib.Core.Path.{_∙_}
 use Prim.Native.Nat.{_+_, _-_, _*_}
 use native.Mathlib.Omega.{arith}
 use denote.Ref.{now}
+use Rattle.picture.proofs.Spans.{span-same}
+use Rattle.passes.specs.Passes.{halve}
 use Rattle.passes.specs.Written.{lane}
-use Rattle.passes.proofs.Written.{run-same, part-one}
+use Rattle.passes.proofs.Written.{element-made}
 use Rattle.blend.proofs.Pixels.{pixels-mix}
 use Rattle.blend.proofs.Outputs.{halved-inside}
 use Rattle.blend.proofs.halve_pixel.Statement.{statement}
@@ -55,9 +57,9 @@ returns c =
     let a = st .args in
     let at = 2 * a .x in
     λ mode.
-    part-one
-    (run-same (w .write-pixel .ensures)
-    (λ k l.
+    element-made (halve mode) (now (a .src)) (a .start) (a .len) 4 (a .x)
+    (span-same (w .write-pixel .ensures)
+    (λ k _ l.
     pixels-mix (now (a .src)) (a .start) (at - 1) at (at + 1) (at + 2) (r1 .read-pixel .ensures) (r2 .read-pixel2 .ensures) (r3 .read-pixel3 .ensures) (r4 .read-pixel4 .ensures) (m .blend-pixels .ensures) k l
     ∙ halved-inside mode (a .len) (a .x) (lane (now (a .src)) (a .start) 4 k) (st .pre .0) (st .pre .1)))
 

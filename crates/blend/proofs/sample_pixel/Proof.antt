@@ -3,10 +3,10 @@ use mathlib.Core.Path.{_≡_, sym, _∙_}
 use native.Mathlib.Omega.{arith}
 use denote.Ref.{now}
 use borrow.Author.Needs.{needs}
+use Rattle.picture.proofs.Spans.{within}
 use Rattle.edges.specs.Edges.{place}
 use Rattle.edges.specs.declared.At.the-variants.{Inside}
 use Rattle.edges.proofs.Places.{below, found-below}
-use Rattle.passes.proofs.Written.{within}
 use Rattle.blend.proofs.Pixels.{sampled-inside, sampled-outside}
 use Rattle.blend.proofs.sample_pixel.Statement.{statement}
 use Rattle.blend.proofs.sample_pixel.Tie as tie

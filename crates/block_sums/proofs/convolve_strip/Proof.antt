@@ -5,10 +5,10 @@ use native.Mathlib.Omega.{arith}
 use lib.ListN.{length, getD}
 use denote.Ref.{now}
 use Rattle.picture.specs.declared.EdgeMode.{EdgeMode}
+use Rattle.picture.proofs.Spans.{within}
 use Rattle.edges.specs.Edges.{Reach}
-use Rattle.passes.proofs.Written.{within}
 use Rattle.block_sums.specs.Bytes.{Convolved, Strip}
-use Rattle.blocks.proofs.Progress.{made-none, made-in, made-span, made-join}
+use Rattle.blocks.proofs.Progress.{made-none, made-in, made-run, made-join}
 use Rattle.blocks.proofs.Places.{strip-place, strip-at}
 use Rattle.block_sums.proofs.Taps.{some-taps, block-reach, taps-room}
 use Rattle.block_sums.proofs.Bytes.{Filled, lane-byte, lane-nonneg}
@@ -102,10 +102,10 @@ loop-again c =
       w .weigh .kept .0 ∙ l .loop .inv .2,
       (λ mode f.
           made-join (λ j. j / a .stride) (a .x + i) (l .loop .inv .3 mode f)
-          (made-span (w .weigh .ensures)
-          (λ j u v. lane-byte f (s .pre .0 .kernel) (n .0) i _ refl (omega (arith, turn t)) j (strip-at (a .stride) (a .x) i (a .from) (a .n) j (n .1) u v)))
+          (made-run (w .weigh .ensures)
+          (λ k h. lane-byte f (s .pre .0 .kernel) (n .0) i k refl (omega (arith, turn t)) _ (strip-at (a .stride) (a .x) i (a .from) (a .n) (n .1) k h)))
           (λ j r u. omega arith)
-          (λ j r u. strip-place (a .stride) (a .x) i (a .from) (a .n) j (n .1) (omega arith) (r .2) (r .3))),
+          (λ j r u. strip-place (a .stride) (a .x) i (a .from) (a .n) (n .1) j (omega arith) (r .2) (r .3))),
     )
 
 returns : tie.Need-returns Inv-loop μ-loop

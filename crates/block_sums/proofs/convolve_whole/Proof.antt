@@ -7,7 +7,7 @@ use borrow.Author.Needs.{needs}
 use lib.ListN.{length, getD}
 use denote.Ref.{now}
 use Rattle.edges.specs.Edges.{Reach}
-use Rattle.blocks.proofs.Progress.{made-in, made-span}
+use Rattle.blocks.proofs.Progress.{made-in, made-run}
 use Rattle.blocks.proofs.Places.{whole-place, whole-at}
 use Rattle.block_sums.proofs.Taps.{some-taps, block-reach, taps-room}
 use Rattle.block_sums.proofs.Bytes.{Filled, lane-byte, lane-nonneg}
@@ -69,9 +69,9 @@ returns c =
     let a = s .args in
     let z = s .pre .0 .stride-low in
     made-in
-    (made-span (w .weigh .ensures)
-    (λ j l h. lane-byte (filled t) (s .pre .0 .kernel) z 0 _ (sym (zero-mul (a .stride))) (omega (arith, zero-mul (a .stride))) j (whole-at (a .stride) (a .x) (a .m) j z l)))
-    (λ j r. whole-place (a .stride) (a .x) (a .m) j z (r .0) (r .1))
+    (made-run (w .weigh .ensures)
+    (λ k h. lane-byte (filled t) (s .pre .0 .kernel) z 0 k (sym (zero-mul (a .stride))) (omega (arith, zero-mul (a .stride))) _ (whole-at (a .stride) (a .x) (a .m) z k)))
+    (λ j r. whole-place (a .stride) (a .x) (a .m) z j (r .0) (r .1))
 
 pub convolve-whole-spec : {M : Type 1} → statement M
 convolve-whole-spec =

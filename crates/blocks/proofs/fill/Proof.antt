@@ -5,10 +5,10 @@ use native.Mathlib.Nat.{add-mul, one-mul}
 use native.Mathlib.Omega.{arith}
 use lib.Ieee.{nan}
 use lib.ListN.{length}
-use Rattle.passes.proofs.Written.{within}
+use Rattle.picture.proofs.Planes.{quotient, remainder}
+use Rattle.picture.proofs.Spans.{within}
 use Rattle.blocks.specs.Blocks.{blockValue, Made}
-use Rattle.blocks.proofs.Progress.{made-none, made-span, made-join}
-use Rattle.blocks.proofs.Places.{at-element}
+use Rattle.blocks.proofs.Progress.{made-none, made-run, made-join}
 use Rattle.blocks.proofs.fill.Statement.{statement}
 use Rattle.blocks.proofs.fill.Tie as tie
 
@@ -48,7 +48,7 @@ loop-again c =
       omega arith,
       t .fill-element .kept .0 ∙ l .loop .inv .2,
       made-join (λ k. k) (e * n) (l .loop .inv .3)
-          (made-span (t .fill-element .ensures) (λ k u v. let p = at-element n e k u v in rw (p .0, p .1)))
+          (made-run (t .fill-element .ensures) (λ k h. rw (quotient n e k h, remainder n e k h)))
           (λ k r u. omega arith)
           (λ k r u. omega arith),
     )

@@ -6,14 +6,13 @@ use native.Mathlib.Omega.{arith}
 use borrow.Author.Needs.{needs}
 use lib.ListN.{getD}
 use denote.Ref.{now}
+use Rattle.picture.proofs.Spans.{within, span-same}
 use Rattle.edges.specs.declared.At.{At}
 use Rattle.edges.specs.declared.At.the-variants.{Inside}
 use Rattle.edges.specs.Edges.{place, Below}
 use Rattle.edges.proofs.Places.{below}
 use Rattle.passes.specs.Written.{lane}
-use Rattle.passes.proofs.Written.{within}
 use Rattle.lanes.specs.Lanes.{widened}
-use Rattle.lanes.proofs.Spans.{span-same}
 use Rattle.blocks.proofs.Values.{placed, nothing}
 use Rattle.blocks.proofs.fill_element.Statement.{statement}
 use Rattle.blocks.proofs.fill_element.Tie as tie

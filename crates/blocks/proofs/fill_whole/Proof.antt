@@ -5,7 +5,7 @@ use native.Mathlib.Omega.{arith}
 use borrow.Author.Needs.{needs}
 use denote.Ref.{now}
 use Rattle.picture.proofs.Sizes.{room-is}
-use Rattle.blocks.proofs.Progress.{made-span, made-join}
+use Rattle.blocks.proofs.Progress.{made-run, made-join}
 use Rattle.blocks.proofs.Values.{run-ends, run-fits, run-value}
 use Rattle.blocks.proofs.fill_whole.Statement.{statement}
 use Rattle.blocks.proofs.fill_whole.Tie as tie
@@ -44,7 +44,7 @@ returns c =
     let p = start l .pre .0 in
     made-join (λ k. k) (high l * a .stride)
     (made-join {T = λ k. k < high l * a .stride} (λ k. k) (low l * a .stride) (f .fill .ensures)
-    (made-span (w .widen .ensures) (λ k u v. run-value (a .mode) (now (a .src)) (a .start) (a .len) (a .stride) (a .x) (a .d) (low l) (high l) k (p .2) (ends l .2) (ends l .3) u (omega (arith, fits l))))
+    (made-run (w .widen .ensures) (λ k h. run-value (a .mode) (now (a .src)) (a .start) (a .len) (a .stride) (a .x) (a .d) (low l) (high l) k (p .2) (ends l .2) (ends l .3) h))
     (λ k r u. omega arith)
     (λ k r u. omega (arith, fits l)))
     (t .fill2 .ensures)

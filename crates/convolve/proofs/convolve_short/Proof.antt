@@ -8,14 +8,15 @@ use lib.Ieee.{binary32, ofBits}
 use lib.ListN.{length, length-take, length-drop, length-replicate}
 use denote.Ref.{now}
 use Rattle.passes.specs.Passes.{convolve}
-use Rattle.convolve.proofs.Lent.{Lined, lined-none, line-ends, line-more, lined-all}
+use Rattle.passes.proofs.Written.{Lined, lined-none, line-ends, lined-all}
+use Rattle.convolve.proofs.Lent.{line-more}
 use Rattle.convolve.proofs.Room.{short-room}
 use Rattle.convolve.proofs.convolve_short.Statement.{statement}
 use Rattle.convolve.proofs.convolve_short.Tie as tie
 
 abbrev Inv-loop : tie.InvT-loop
 Inv-loop src dst₀ lines len stride weights mode line₀ acc₀ y₀ dst line acc y =
-    (y ≤ lines) × (length line ≡ 1280) × (length acc ≡ 256) × Lined (convolve mode weights) src len stride dst₀ dst y
+    (y ≤ lines) × (length line ≡ 1280) × (length acc ≡ 256) × Lined (convolve mode weights) src len len stride dst₀ dst y
 
 abbrev μ-loop : tie.MeasureT-loop
 μ-loop src dst₀ lines len stride weights mode line₀ acc₀ y₀ dst line acc y = lines - y
@@ -33,10 +34,10 @@ ends : (c : tie.In-loop Inv-loop μ-loop) →
 ends c =
     let l = c .before in
     let s = start l in
-    line-ends (s .args .lines) (l .loop .inv .3) (s .pre .0 .dst-size) (c .loop-test .taken)
+    line-ends (l .loop .inv .3) (s .args .lines) (s .pre .0 .dst-size) (c .loop-test .taken)
 
 fits : (l : tie.At-loop Inv-loop μ-loop) → length (l .loop .dst) < 2 ^ 64
-fits l = omega (arith, l .loop .inv .3 .same, start l .good .1 .0 .0)
+fits l = omega (arith, l .loop .inv .3 .made .size, start l .good .1 .0 .0)
 
 add-convolve-whole : tie.Need-add-convolve-whole Inv-loop μ-loop
 add-convolve-whole c =
@@ -52,7 +53,7 @@ convolve-whole-requires c κs =
     let q = s .pre .1 in
     let i = l .loop .inv in
     let e = ends t in (
-      record { kernel = p .kernel; len-high = p .len-high; stride-low = p .stride-low; end = omega (arith, i .3 .same, p .src-size, p .dst-size) },
+      record { kernel = p .kernel; len-high = p .len-high; stride-low = p .stride-low; end = omega (arith, i .3 .made .size, p .src-size, p .dst-size) },
       (
         (p .len-low, omega arith),
         (simp (length-take, length-drop) (omega arith), short-room (p .kernel) (s .args .len) (s .args .stride) (i .1) (i .2) (q .0) (q .1)),
@@ -70,12 +71,12 @@ loop-again c =
       omega arith,
       k .0 ∙ i .1,
       k .1 .0 ∙ i .2,
-      line-more (s .args .lines) (i .3) (s .pre .0 .dst-size) (t .loop-test .taken) (w .convolve-whole .last .1 .1 .1 .1 .0) (k .1 .1 .1 .1 .0)
+      line-more (i .3) (s .args .lines) (s .pre .0 .dst-size) (t .loop-test .taken) (w .convolve-whole .last .1 .1 .1 .1 .0) (k .1 .1 .1 .1 .0)
           (λ j h. w .convolve-whole .ensures .makes j (omega arith, omega (arith, div-lt-iff-lt-mul (s .pre .0 .stride-low) .1 h))),
     )
 
 returns : tie.Need-returns Inv-loop μ-loop
-returns c = let l = c .before in let s = start l in lined-all (s .args .lines) (l .loop .inv .3) (s .pre .0 .dst-size) (omega arith)
+returns c = let l = c .before in let s = start l in lined-all (l .loop .inv .3) (s .args .lines) (s .pre .0 .dst-size) (omega arith)
 
 pub convolve-short-spec : {M : Type 1} → statement M
 convolve-short-spec =
@@ -96,5 +97,5 @@ convolve-short-spec =
     (λ c. omega arith)
     (λ c. omega arith)
     loop-again
-    (λ c. c .before .loop .inv .3 .same)
+    (λ c. c .before .loop .inv .3 .made .size)
     returns)

@@ -5,14 +5,15 @@ use native.Mathlib.Omega.{arith}
 use lib.ListN.{length, length-take, length-drop}
 use denote.Ref.{now}
 use Rattle.passes.specs.Passes.{convolve}
-use Rattle.convolve.proofs.Lent.{Lined, lined-none, line-ends, line-more, lined-all}
+use Rattle.passes.proofs.Written.{Lined, lined-none, line-ends, lined-all}
+use Rattle.convolve.proofs.Lent.{line-more}
 use Rattle.convolve.proofs.Room.{room-still}
 use Rattle.convolve.proofs.each_line.Statement.{statement}
 use Rattle.convolve.proofs.each_line.Tie as tie
 
 abbrev Inv-loop : tie.InvT-loop
 Inv-loop line₀ acc₀ src dst₀ lines len stride most weights mode y₀ line acc dst y =
-    (y ≤ lines) × (length line ≡ length line₀) × (length acc ≡ length acc₀) × Lined (convolve mode weights) src len stride dst₀ dst y
+    (y ≤ lines) × (length line ≡ length line₀) × (length acc ≡ length acc₀) × Lined (convolve mode weights) src len len stride dst₀ dst y
 
 abbrev μ-loop : tie.MeasureT-loop
 μ-loop line₀ acc₀ src dst₀ lines len stride most weights mode y₀ line acc dst y = lines - y
@@ -30,10 +31,10 @@ ends : (c : tie.In-loop Inv-loop μ-loop) →
 ends c =
     let l = c .before in
     let s = start l in
-    line-ends (s .args .lines) (l .loop .inv .3) (s .pre .0 .dst-size) (c .loop-test .taken)
+    line-ends (l .loop .inv .3) (s .args .lines) (s .pre .0 .dst-size) (c .loop-test .taken)
 
 fits : (l : tie.At-loop Inv-loop μ-loop) → length (l .loop .dst) < 2 ^ 64
-fits l = omega (arith, l .loop .inv .3 .same, start l .good .1 .1 .1 .0 .0)
+fits l = omega (arith, l .loop .inv .3 .made .size, start l .good .1 .1 .1 .0 .0)
 
 add-convolve-line : tie.Need-add-convolve-line Inv-loop μ-loop
 add-convolve-line c =
@@ -48,7 +49,7 @@ convolve-line-requires c κs =
     let b = start l .pre .1 in
     let i = l .loop .inv in
     let e = ends t in (
-      record { kernel = p .kernel; len-high = p .len-high; stride-low = p .stride-low; end = omega (arith, i .3 .same, p .src-size, p .dst-size) },
+      record { kernel = p .kernel; len-high = p .len-high; stride-low = p .stride-low; end = omega (arith, i .3 .made .size, p .src-size, p .dst-size) },
       (simp (length-take, length-drop) (omega arith), room-still b (i .1) (i .2) (b .some) (omega arith)),
     )
 
@@ -60,10 +61,10 @@ loop-again c =
     let s = start l in
     let i = l .loop .inv in
     let k = w .convolve-line .kept in
-    (omega arith, k .0 ∙ i .1, k .1 .0 ∙ i .2, line-more (s .args .lines) (i .3) (s .pre .0 .dst-size) (t .loop-test .taken) (w .convolve-line .last .1 .1 .1 .1 .0) (k .1 .1 .1 .1 .0) (w .convolve-line .ensures))
+    (omega arith, k .0 ∙ i .1, k .1 .0 ∙ i .2, line-more (i .3) (s .args .lines) (s .pre .0 .dst-size) (t .loop-test .taken) (w .convolve-line .last .1 .1 .1 .1 .0) (k .1 .1 .1 .1 .0) (w .convolve-line .ensures))
 
 returns : tie.Need-returns Inv-loop μ-loop
-returns c = let l = c .before in let s = start l in lined-all (s .args .lines) (l .loop .inv .3) (s .pre .0 .dst-size) (omega arith)
+returns c = let l = c .before in let s = start l in lined-all (l .loop .inv .3) (s .args .lines) (s .pre .0 .dst-size) (omega arith)
 
 pub each-line-spec : {M : Type 1} → statement M
 each-line-spec =
@@ -84,5 +85,5 @@ each-line-spec =
     loop-again
     (λ c. c .before .loop .inv .1)
     (λ c. c .before .loop .inv .2)
-    (λ c. c .before .loop .inv .3 .same)
+    (λ c. c .before .loop .inv .3 .made .size)
     returns)

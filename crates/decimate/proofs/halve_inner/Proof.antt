@@ -4,21 +4,21 @@ use Prim.Native.Nat.{_+_, _-_, _*_, _/_, _≤_}
 use native.Mathlib.Omega.{arith}
 use lib.ListN.{length}
 use Rattle.picture.proofs.Sizes.{room-is}
-use Rattle.passes.proofs.Written.{part-none, part-join}
+use Rattle.picture.proofs.Spans.{span-none, span-join}
 use Rattle.passes.specs.Passes.{halve}
-use Rattle.blend.specs.Made.{MadeInside}
+use Rattle.blend.specs.Parts.{PassPartInside}
 use Rattle.decimate.proofs.halve_inner.Statement.{statement}
 use Rattle.decimate.proofs.halve_inner.Tie as tie
 
 abbrev Inv-loop : tie.InvT-loop
 Inv-loop src start len dst₀ o x₀ dst x =
-    (1 ≤ x) × (2 * x + 1 ≤ len) × (length dst ≡ length dst₀) × MadeInside halve src dst₀ dst start len o 1 x
+    (1 ≤ x) × (2 * x + 1 ≤ len) × (length dst ≡ length dst₀) × PassPartInside halve src dst₀ dst start len o 1 x
 
 abbrev μ-loop : tie.MeasureT-loop
 μ-loop src start len dst₀ o x₀ dst x = len - x
 
 loop-holds : tie.Need-loop-holds Inv-loop μ-loop
-loop-holds c = (omega arith, omega arith, refl, λ mode. part-none)
+loop-holds c = (omega arith, omega arith, refl, λ mode. span-none (omega arith))
 
 mul-loop : tie.Need-mul-loop Inv-loop μ-loop
 mul-loop c = omega (arith, room-is)
@@ -39,7 +39,7 @@ loop-again : tie.Need-loop-again Inv-loop μ-loop
 loop-again c =
     let e = c .before .before in
     let g = e .before .before .before in
-    (omega arith, omega arith, omega arith, λ mode. part-join (omega arith) (omega arith) (g .loop .inv .3 mode) (e .halve-pixel .ensures mode))
+    (omega arith, omega arith, omega arith, λ mode. span-join (omega arith) (omega arith) (g .loop .inv .3 mode) (e .halve-pixel .ensures mode))
 
 same-length : tie.Need-same-length Inv-loop μ-loop
 same-length c = c .before .loop .inv .2

@@ -38,10 +38,10 @@ loop-again : tie.Need-loop-again Inv-loop μ-loop
 loop-again c =
     let e = c .before .before in
     let t = e .before .before in
-    one-more (t .before .loop .inv) (t .loop-test .taken) (e .resize-end .kept .1 .1 .1 .0) (e .resize-end .ensures)
+    one-more (t .before .loop .inv) (t .loop-test .taken) (e .resize-end .ensures)
 
 same-length : tie.Need-same-length Inv-loop μ-loop
-same-length c = c .before .loop .inv .same
+same-length c = c .before .loop .inv .made .size
 
 returns : tie.Need-returns Inv-loop μ-loop
 returns c = all-made (c .before .loop .inv) (omega arith)

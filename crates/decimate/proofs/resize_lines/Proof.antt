@@ -1,20 +1,19 @@
--- The lines so far are a part of all; each turn joins the next to it, and all of them are the pass.
-use mathlib.Core.Path.{_≡_, refl}
+-- Each turn makes one line more, and all of them are the pass.
+use mathlib.Core.Path.{refl}
 use Prim.Native.Nat.{ℕ, _+_, _*_, _-_, _≤_, _<_}
+use native.Mathlib.Nat.{zero-mul}
 use native.Mathlib.Omega.{arith}
 use denote.Ref.{now}
 use lib.ListN.{length}
-use Rattle.passes.specs.Written.{Part}
-use Rattle.passes.proofs.Written.{within, part-none, part-one, part-join, part-run, lineOf, part-passed}
+use Rattle.picture.proofs.Spans.{within, span-ends}
+use Rattle.passes.proofs.Written.{Lined, lined-none, lined-more, lined-all}
 use Rattle.decimate.specs.Resize.{passOf}
 use Rattle.decimate.proofs.resize_lines.Statement.{statement}
 use Rattle.decimate.proofs.resize_lines.Tie as tie
 
 abbrev Inv-loop : tie.InvT-loop
 Inv-loop src dst₀ lines len out stride mode kind read made y₀ dst y =
-    (y ≤ lines)
-    × (length dst ≡ length dst₀)
-    × Part dst₀ dst 0 0 y (out * stride) (λ z k. lineOf (passOf kind mode) src (z * (len * stride)) len stride k)
+    (y ≤ lines) × Lined (passOf kind mode) src len out stride dst₀ dst y
 
 abbrev μ-loop : tie.MeasureT-loop
 μ-loop src dst₀ lines len out stride mode kind read made y₀ dst y = lines - y
@@ -36,7 +35,7 @@ mul-made : tie.Need-mul-made Inv-loop μ-loop
 mul-made c = omega (arith, room c 0 (c .before .before .pre .some))
 
 loop-holds : tie.Need-loop-holds Inv-loop μ-loop
-loop-holds c = (omega arith, refl, part-none)
+loop-holds c = (omega arith, lined-none)
 
 mul-resize-line : tie.Need-mul-resize-line Inv-loop μ-loop
 mul-resize-line c = omega (arith, room (c .before .before) (c .before .loop .y) (c .loop-test .taken))
@@ -60,19 +59,16 @@ loop-again : tie.Need-loop-again Inv-loop μ-loop
 loop-again c =
     let e = c .before .before in
     let g = e .before .before .before in
-    let a = g .before .before .before .args in
-    let from : 0 + g .loop .y * (a .out * a .stride) ≡ g .loop .y * (a .out * a .stride) = omega arith in
-    (omega arith, omega arith, part-join (omega arith) (omega arith) (g .loop .inv .2) (part-one (rw from (part-run (g .before .before .before .pre .stride-low) (e .resize-line .ensures)))))
+    (omega arith, lined-more (g .loop .inv .1) (span-ends (e .resize-line .ensures) (zero-mul (g .before .before .before .args .stride)) refl))
 
 same-length : tie.Need-same-length Inv-loop μ-loop
-same-length c = c .before .loop .inv .1
+same-length c = c .before .loop .inv .1 .made .size
 
 returns : tie.Need-returns Inv-loop μ-loop
 returns c =
     let st = c .before .before .before .before in
     let a = st .args in
-    let e : c .before .loop .y ≡ a .lines = omega arith in
-    part-passed (passOf (a .kind) (a .mode)) (now (a .src)) (a .lines) (a .len) (a .out) (a .stride) (omega (arith, st .pre .dst-length)) (rw e at (c .before .loop .inv .2))
+    lined-all (c .before .loop .inv .1) (a .lines) (st .pre .dst-length) (omega arith)
 
 pub resize-lines-spec : {M : Type 1} → statement M
 resize-lines-spec =

@@ -38,10 +38,10 @@ loop-again : tie.Need-loop-again Inv-loop μ-loop
 loop-again c =
     let e = c .before .before in
     let t = e .before .before in
-    one-more (t .before .loop .inv) (t .loop-test .taken) (e .resize-element .kept .1 .1 .1 .1 .0) (e .resize-element .ensures)
+    one-more (t .before .loop .inv) (t .loop-test .taken) (e .resize-element .ensures)
 
 same-length : tie.Need-same-length Inv-loop μ-loop
-same-length c = c .before .loop .inv .same
+same-length c = c .before .loop .inv .made .size
 
 returns : tie.Need-returns Inv-loop μ-loop
 returns c = all-made (c .before .loop .inv) (omega arith)

@@ -3,7 +3,7 @@ use mathlib.Core.Path.{_∙_}
 use Prim.Native.Nat.{_*_, _≤_}
 use native.Mathlib.Omega.{arith}
 use Rattle.picture.specs.Sizes.{sideRoom}
-use Rattle.passes.proofs.Written.{part-join}
+use Rattle.picture.proofs.Spans.{span-join}
 use Rattle.decimate.proofs.Sizes.{out-high, inner-fits}
 use Rattle.decimate.proofs.resize_row.Statement.{statement}
 use Rattle.decimate.proofs.resize_row.Tie as tie
@@ -55,8 +55,8 @@ returns c =
     let t = p1 .before .before in
     let a = t .before .before .before .before .args in
     let b = bounds t in
-    part-join (omega arith) (b .1)
-    (part-join (omega arith) (b .0) (p1 .resize-ends .ensures)
+    span-join (omega arith) (omega arith)
+    (span-join (omega arith) (omega arith) (p1 .resize-ends .ensures)
     (rw (← t .before .inner-from .ensures, ← t .inner-to .ensures) at (i .resize-inner .ensures (a .mode))))
     (p2 .resize-ends2 .ensures)
 

@@ -1,18 +1,19 @@
 -- Each turn adds two products to one sum more, which stands as it came in.
-use mathlib.Core.Path.{ap}
+use mathlib.Core.Path.{refl, ap}
 use Prim.Native.Nat.{_+_, _-_, _≤_}
 use native.Mathlib.Omega.{arith}
 use lib.Ieee.{Float, nan}
 use lib.ListN.{getD}
 use denote.Ref.{now}
-use Rattle.lanes.specs.Lanes.{Span, plus}
-use Rattle.lanes.proofs.Spans.{span-none, span-more, span-to}
+use Rattle.picture.specs.Spans.{Run}
+use Rattle.picture.proofs.Spans.{span-none, span-more, span-ends}
+use Rattle.lanes.specs.Lanes.{addTap}
 use Rattle.lanes.proofs.add_two.Statement.{statement}
 use Rattle.lanes.proofs.add_two.Tie as tie
 
 abbrev Inv-loop : tie.InvT-loop
 Inv-loop acc₀ n line a k b l i₀ acc i =
-    (i ≤ n) × Span nan acc₀ acc 0 i (λ j. plus (plus (getD acc₀ j nan) (getD line (a + j) nan) k) (getD line (b + j) nan) l)
+    (i ≤ n) × Run nan acc₀ acc 0 i (λ j. addTap (addTap (getD acc₀ j nan) (getD line (a + j) nan) k) (getD line (b + j) nan) l)
 
 abbrev μ-loop : tie.MeasureT-loop
 μ-loop acc₀ n line a k b l i₀ acc i = n - i
@@ -22,7 +23,7 @@ loop-again c =
     let l = c .before .before .before .before in
     let a = l .before .args in
     let i = l .loop .i in
-    (omega arith, span-more (l .loop .inv .1) (omega arith) (omega arith) (omega arith) (ap (λ (s : Float). plus (plus s (getD (now (a .line)) (a .a + i) nan) (a .k)) (getD (now (a .line)) (a .b + i) nan) (a .l)) (l .loop .inv .1 .above i (omega arith))))
+    (omega arith, span-more (l .loop .inv .1) (omega arith) (omega arith) (omega arith) (ap (λ (s : Float). addTap (addTap s (getD (now (a .line)) (a .a + i) nan) (a .k)) (getD (now (a .line)) (a .b + i) nan) (a .l)) (l .loop .inv .1 .above i (omega arith))))
 
 pub add-two-spec : {M : Type 1} → statement M
 add-two-spec =
@@ -45,4 +46,4 @@ add-two-spec =
     (λ c. omega arith)
     loop-again
     (λ c. c .before .loop .inv .1 .size)
-    (λ c. span-to (c .before .loop .inv .1) (omega arith)))
+    (λ c. span-ends (c .before .loop .inv .1) refl (omega arith)))

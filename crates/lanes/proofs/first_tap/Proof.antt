@@ -5,13 +5,14 @@ use native.Mathlib.Omega.{arith}
 use lib.Ieee.{nan, ofBits}
 use lib.ListN.{getD}
 use Rattle.binary32.specs.Ranges.{zero32}
-use Rattle.lanes.specs.Lanes.{Span, plus}
-use Rattle.lanes.proofs.Spans.{span-none, span-more, span-to}
+use Rattle.picture.specs.Spans.{Run}
+use Rattle.picture.proofs.Spans.{span-none, span-more, span-ends}
+use Rattle.lanes.specs.Lanes.{addTap}
 use Rattle.lanes.proofs.first_tap.Statement.{statement}
 use Rattle.lanes.proofs.first_tap.Tie as tie
 
 abbrev Inv-loop : tie.InvT-loop
-Inv-loop acc₀ n line a k i₀ acc i = (i ≤ n) × Span nan acc₀ acc 0 i (λ j. plus zero32 (getD line (a + j) nan) k)
+Inv-loop acc₀ n line a k i₀ acc i = (i ≤ n) × Run nan acc₀ acc 0 i (λ j. addTap zero32 (getD line (a + j) nan) k)
 
 abbrev μ-loop : tie.MeasureT-loop
 μ-loop acc₀ n line a k i₀ acc i = n - i
@@ -38,4 +39,4 @@ first-tap-spec =
     (λ c. omega arith)
     loop-again
     (λ c. c .before .loop .inv .1 .size)
-    (λ c. span-to (c .before .loop .inv .1) (omega arith)))
+    (λ c. span-ends (c .before .loop .inv .1) refl (omega arith)))

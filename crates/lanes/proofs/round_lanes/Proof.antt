@@ -1,18 +1,17 @@
 -- Each turn rounds one sum more.
-use mathlib.Core.Path.{ap, _∙_}
-use Prim.Native.Nat.{ℕ, _+_, _-_, _≤_}
+use mathlib.Core.Path.{refl}
+use Prim.Native.Nat.{_-_, _≤_}
 use native.Mathlib.Omega.{arith}
 use lib.Ieee.{nan}
 use lib.ListN.{getD}
-use denote.Ref.{now}
 use Rattle.binary32.specs.Round.{toByte}
-use Rattle.lanes.specs.Lanes.{Span}
-use Rattle.lanes.proofs.Spans.{span-none, span-more, span-to}
+use Rattle.picture.specs.Spans.{Run}
+use Rattle.picture.proofs.Spans.{span-none, span-more, span-ends}
 use Rattle.lanes.proofs.round_lanes.Statement.{statement}
 use Rattle.lanes.proofs.round_lanes.Tie as tie
 
 abbrev Inv-loop : tie.InvT-loop
-Inv-loop dst₀ o n acc i₀ dst i = (i ≤ n) × Span 0 dst₀ dst o (o + i) (λ j. toByte (getD acc (j - o) nan))
+Inv-loop dst₀ o n acc i₀ dst i = (i ≤ n) × Run 0 dst₀ dst o i (λ j. toByte (getD acc j nan))
 
 abbrev μ-loop : tie.MeasureT-loop
 μ-loop dst₀ o n acc i₀ dst i = n - i
@@ -24,8 +23,7 @@ round-channel-requires c κs =
 loop-again : tie.Need-loop-again Inv-loop μ-loop
 loop-again c =
     let l = c .before .before .before in
-    let a = l .before .before .before .args in
-    (omega arith, span-more (l .loop .inv .1) (omega arith) (omega arith) (omega arith) (c .round-channel .ensures ∙ ap (λ (k : ℕ). toByte (getD (now (a .acc)) k nan)) (omega arith)))
+    (omega arith, span-more (l .loop .inv .1) (omega arith) (omega arith) refl (c .round-channel .ensures))
 
 pub round-lanes-spec : {M : Type 1} → statement M
 round-lanes-spec =
@@ -43,4 +41,4 @@ round-lanes-spec =
     (λ c. omega arith)
     loop-again
     (λ c. c .before .loop .inv .1 .size)
-    (λ c. span-to (c .before .loop .inv .1) (omega arith)))
+    (λ c. span-ends (c .before .loop .inv .1) refl (omega arith)))

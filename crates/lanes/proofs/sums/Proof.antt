@@ -6,6 +6,7 @@ use native.Mathlib.Omega.{arith}
 use lib.Ieee.{nan}
 use lib.ListN.{length, getD}
 use denote.Ref.{now}
+use Rattle.picture.proofs.Spans.{span-at}
 use Rattle.lanes.specs.Lanes.{laneSum}
 use Rattle.lanes.proofs.Taps.{reach, sum-first, sum-more, sum-two}
 use Rattle.lanes.proofs.sums.Statement.{statement}
@@ -45,7 +46,7 @@ loop-holds : tie.Need-loop-holds Inv-loop μ-loop
 loop-holds c =
     let s = c .before .before .before .before .before .before .before .before in
     let a = s .args in
-    (s .pre .1 .some, refl, (λ i h. c .before .before .first-tap .ensures .inside i (omega arith) h ∙ sum-first (now (a .line)) (a .a) (a .step) (now (a .weights)) i))
+    (s .pre .1 .some, refl, (λ i h. span-at (c .before .before .first-tap .ensures) i (omega arith) (omega arith) h ∙ sum-first (now (a .line)) (a .a) (a .step) (now (a .weights)) i))
 
 add-two-requires : tie.Need-add-two-requires Inv-loop μ-loop
 add-two-requires c κs =
@@ -60,7 +61,7 @@ loop-again c =
       omega (arith, t .before .before .before .before .loop-test .taken),
       t .add-two .kept .0 ∙ l .loop .inv .1,
       (λ i h.
-          t .add-two .ensures .inside i (omega arith) h ∙ sum-two (now (a .line)) (a .a) (a .step) (now (a .weights)) i (l .loop .j) (l .loop .inv .2 i h) refl),
+          span-at (t .add-two .ensures) i (omega arith) (omega arith) h ∙ sum-two (now (a .line)) (a .a) (a .step) (now (a .weights)) i (l .loop .j) (l .loop .inv .2 i h) refl),
     )
 
 add-tap-requires : tie.Need-add-tap-requires Inv-loop μ-loop
@@ -78,7 +79,7 @@ returns c =
     let a = start l .args in
     let e : l .loop .j + 1 ≡ length (now (a .weights)) = omega (arith, t .before .before .before .if1 .taken, t .before .before .before .before .loop-test .left) in
     λ i h.
-    t .add-tap .ensures .inside i (omega arith) h
+    span-at (t .add-tap .ensures) i (omega arith) (omega arith) h
     ∙ sum-more (now (a .line)) (a .a) (a .step) (now (a .weights)) i (l .loop .j) (l .loop .inv .2 i h) refl
     ∙ ap (λ (k : ℕ). laneSum (now (a .line)) (a .a) (a .step) (now (a .weights)) k i) e
 

@@ -4,9 +4,9 @@ use native.Mathlib.Omega.{arith}
 use borrow.Author.Needs.{needs}
 use lib.Dec.{T}
 use lib.Ieee.{Float}
+use Rattle.picture.proofs.Spans.{span-same}
 use Rattle.binary32.specs.Ranges.{nonneg}
 use Rattle.binary32.specs.Round.{toByte}
-use Rattle.lanes.proofs.Spans.{span-same}
 use Rattle.lanes.proofs.weigh.Statement.{statement}
 use Rattle.lanes.proofs.weigh.Tie as tie
 
@@ -20,7 +20,7 @@ returns : tie.Need-returns
 returns c =
     let t = c .before .before in
     let s = t .before .before .before .before .before in
-    span-same (t .round-lanes .ensures) (λ j l h. ap toByte (s .sums .ensures _ (omega arith)))
+    span-same (t .round-lanes .ensures) (λ i l h. ap toByte (s .sums .ensures i h))
 
 pub weigh-spec : {M : Type 1} → statement M
 weigh-spec =
