@@ -1,7 +1,7 @@
 -- The exact blur is not the blur: a picture whose exact number is no multiple of 2^(10n+32).
 use mathlib.Core.Path.{_≡_, refl}
-use mathlib.Core.List.{List, [], _∷_}
-use Prim.Native.Nat.{ℕ, _*_}
+use mathlib.Core.List.{[], _∷_}
+use Prim.Native.Nat.{_*_}
 use lib.Ieee.{add, mul, ofInt}
 use lib.ListN.{getD}
 use Rattle.picture.specs.Planes.{Plane}

@@ -1,22 +1,29 @@
 -- Demand 3 of the entry: what it leaves where it answers 0 is the blur.
 use mathlib.Core.Path.{_≡_, ap, _∙_, sym, subst}
+use mathlib.Core.Bool.{true}
 use mathlib.Core.List.{List}
 use Prim.Native.Nat.{ℕ}
-use Rattle.picture.specs.Planes.{chan}
+use native.Mathlib.Omega.{arith}
+use lib.Ieee.{Float}
+use denote.Ref.{now}
+use Rattle.picture.specs.Answer.{answered, Lent, lent}
 use Rattle.picture.specs.Modes.{modeOf}
-use Rattle.picture.specs.Answer.{Lent}
 use Rattle.picture.proofs.Answers.{accepted}
-use Rattle.binary32.specs.Grid.{numerators}
 use Rattle.gaussian_blur.specs.Blurred.{blurred}
-use Rattle.gaussian_blur.specs.Outcome.{blurredOrKept, outcome}
-use Rattle.exact_blur.specs.Exact.{exactBlur}
-use Rattle.exact_blur.specs.Demand.{steps, Within, OfTheEntry}
+use Rattle.gaussian_blur.specs.Outcome.{aboveZero, blurredOrKept, blurOutcome}
+use Rattle.exact_blur.specs.Demand.{GridKernel, NearExact, LentBytes, OfTheEntry}
 use Rattle.exact_blur.proofs.Near.{near-exact}
 
+-- for a caller, of the equation that the entry promises
+pub left-near : (p : List ℕ) (w h : ℕ) (s : List ℕ) (weights : List Float) (n : ℕ) (strength : Float) (edge r : ℕ) (left : Lent) →
+    answered r left ≡ blurOutcome p w h s weights n strength edge → r ≡ 0 → aboveZero strength ≡ true → GridKernel weights → LentBytes p →
+    NearExact (modeOf edge) weights n w h p (left .picture)
+unfolding blurOutcome blurredOrKept
+left-near p w h s weights n strength edge r left e zero on kernel bytes =
+    let done = accepted _ _ _ left (subst (λ (n′ : ℕ). answered n′ left ≡ blurOutcome p w h s weights n strength edge) zero e) in
+    let is : left .picture ≡ blurred (modeOf edge) weights n w h p = ap (λ (l : Lent). l .picture) done ∙ rw on in
+    subst (λ (q : List ℕ). NearExact (modeOf edge) weights n w h p q) (sym is)
+    (near-exact (modeOf edge) weights kernel n w h p (λ i. omega (arith, bytes i .fits)))
+
 pub graded : OfTheEntry
-unfolding outcome blurredOrKept
-graded p w h s weights n strength edge p′ s′ e on kernel bytes c x y lc lx ly =
-    let left : p′ ≡ blurredOrKept (modeOf edge) weights n strength w h p = ap (λ (l : Lent). l .picture) (accepted _ _ _ _ e) in
-    let is : p′ ≡ blurred (modeOf edge) weights n w h p = left ∙ rw on in
-    subst (λ (q : List ℕ). Within (steps n) n (chan q w c x y) (exactBlur (modeOf edge) (numerators weights) n w h (chan p w c) x y)) (sym is)
-    (near-exact (modeOf edge) weights kernel n w h p bytes c x y lc lx ly)
+graded κs a r x e = left-near _ _ _ _ _ _ _ _ r (lent (now (x .0)) (now (x .1 .1 .1 .0))) e

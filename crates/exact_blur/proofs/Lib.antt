@@ -5,3 +5,4 @@ pub mod Passes
 pub mod Near
 pub mod Graded
 pub mod Apart
+pub mod Sharp

@@ -1,21 +1,19 @@
 -- Each pass rounds, to the nearest, what its exact pass has 8, 4 or 65536 times as large.
-use mathlib.Core.Path.{_≡_, refl, sym, ap, _∙_, subst}
+use mathlib.Core.Path.{_≡_, sym, subst}
 use mathlib.Core.Bool.{Bool, true, false, cond}
-use mathlib.Core.List.{List}
 use Prim.Native.Nat.{ℕ, zero, suc, _+_, _*_, _/_, _%_, _≤_, _<_}
 use native.Mathlib.Omega.{arith}
 use native.Mathlib.Nat.{mul-comm, mul-one}
 use lib.Dec.{eqb}
-use lib.Ieee.{Float}
 use Rattle.picture.specs.Planes.{Line}
 use Rattle.picture.specs.declared.EdgeMode.{EdgeMode}
 use Rattle.edges.specs.Edges.{sample}
 use Rattle.edges.proofs.Samples.{sample-relates}
 use Rattle.binary32.specs.Taps.{sumTo}
-use Rattle.passes.specs.Passes.{halve, double, convolve}
+use Rattle.passes.specs.Passes.{halve, double}
 use Rattle.passes.proofs.Relates.{Moves}
-use Rattle.exact_blur.specs.Exact.{exactHalve, exactDouble, exactConvolve}
-use Rattle.exact_blur.proofs.Sums.{Sum, Close, sum-none, sum-add, sum-times, rounded}
+use Rattle.exact_blur.specs.Exact.{exactHalve, exactDouble}
+use Rattle.exact_blur.proofs.Sums.{Sum, sum-none, sum-add, sum-times, rounded}
 use Rattle.exact_blur.proofs.Stages.{Stage, Near, over-by}
 
 -- a sum over k, rounded, by whatever formula gives that rounding

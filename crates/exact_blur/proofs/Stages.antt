@@ -1,9 +1,8 @@
 -- The scale and the half steps at each stage of the blur: 2^(10n+32) and 4n + 2 when it is done.
-use mathlib.Core.Path.{_≡_, refl, _∙_, ap}
+use mathlib.Core.Path.{_≡_, _∙_, ap}
 use Prim.Native.Nat.{ℕ, zero, suc, _+_, _*_, _^_}
 use native.Mathlib.Omega.{arith}
 use native.Mathlib.Nat.{mul-assoc, mul-left-comm}
-use native.Mathlib.Numerals.{add-one}
 use lib.Pow.{pow-add}
 use Rattle.passes.proofs.Relates.{after}
 use Rattle.exact_blur.specs.Exact.{over}

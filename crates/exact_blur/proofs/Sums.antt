@@ -1,5 +1,4 @@
 -- Values and weighted sums beside exact ones, and what a rounding to the nearest adds.
-use mathlib.Core.Path.{_≡_}
 use Prim.Native.Nat.{ℕ, _+_, _*_, _/_, _≤_, _<_}
 use native.Mathlib.Omega.{arith}
 use native.Mathlib.Nat.{mul-assoc, mul-add, add-mul, zero-mul, one-mul, mul-left-comm, mul-le-mul-left, mul-le-mul-right, div-mul-le-self, lt-div-mul-add, le-of-lt, le-of-mul-le-mul-right}

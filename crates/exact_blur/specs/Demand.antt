@@ -3,15 +3,23 @@ use mathlib.Core.Path.{_≡_}
 use mathlib.Core.Bool.{true}
 use mathlib.Core.List.{List}
 use Prim.Native.Nat.{ℕ, _+_, _*_, _≤_, _<_}
+use mir.Syntax.{w8}
+use contract.Lifetimes.{Lfts}
+use borrow.Fn.Kinds.{Dens, endedOf}
+use borrow.Rule.Slice.Know.{Fit}
+use borrow.Table.Referent.{fInt}
+use denote.Ref.{now}
+use denote.Triple.Clauses.{AtExit}
 use lib.Ieee.{Float}
 use lib.ListN.{getD}
 use Rattle.picture.specs.Planes.{chan}
 use Rattle.picture.specs.Modes.{modeOf}
-use Rattle.picture.specs.Answer.{answered, lent}
 use Rattle.picture.specs.declared.EdgeMode.{EdgeMode}
 use Rattle.binary32.specs.Grid.{numerators, allOnGrid, sum}
 use Rattle.gaussian_blur.specs.Blurred.{blurred}
-use Rattle.gaussian_blur.specs.Outcome.{aboveZero, outcome}
+use Rattle.gaussian_blur.specs.Outcome.{aboveZero}
+use Rattle.gaussian_blur.proofs.blur.Reads as blur
+use Rattle.gaussian_blur.proofs.blur.Kinds as kinds
 use Rattle.exact_blur.specs.Exact.{exactBlur, over}
 
 -- how many steps the blur with n decimations may be away
@@ -28,20 +36,33 @@ pub record GridKernel (weights : List Float) : Type 0 where
   pub on-grid : allOnGrid weights ≡ true
   pub fits : sum (numerators weights) ≤ 65536
 
+-- every channel c of every pixel x, y of a picture is near the exact blur of p
+abbrev pub NearExact : EdgeMode → List Float → ℕ → ℕ → ℕ → List ℕ → List ℕ → Type 0
+NearExact mode weights n w h p picture =
+    (c x y : ℕ) → c < 4 → x < w → y < h → Within (steps n) n (chan picture w c x y) (exactBlur mode (numerators weights) n w h (chan p w c) x y)
+
 -- a list of bytes
 abbrev pub Bytes : List ℕ → Type 0
 Bytes p = (i : ℕ) → getD p i 0 ≤ 255
 
--- of demand 2's definition: every channel c of every pixel x, y
+-- of demand 2's definition
 abbrev pub OfTheBlur : Type 0
 OfTheBlur =
-    (mode : EdgeMode) (weights : List Float) → GridKernel weights → (n w h : ℕ) (p : List ℕ) → Bytes p → (c x y : ℕ) → c < 4 → x < w → y < h →
-    Within (steps n) n (chan (blurred mode weights n w h p) w c x y) (exactBlur mode (numerators weights) n w h (chan p w c) x y)
+    (mode : EdgeMode) (weights : List Float) → GridKernel weights → (n w h : ℕ) (p : List ℕ) → Bytes p → NearExact mode weights n w h p (blurred mode weights n w h p)
 
--- as a grader reads it, of the bytes p′ that the entry leaves in the lent picture where it answers 0 and the strength is above zero
+-- each element fits a u8: no condition on a caller, but what owning a lent u8 slice gives (`slice-known` where a function calls the entry)
+abbrev pub LentBytes : List ℕ → Type 0
+LentBytes p = Fit (fInt w8) 0 p
+
+-- as a grader reads it, of the entry's contract: what a call that answers 0 leaves in the lent picture, where the strength is above zero
 abbrev pub OfTheEntry : Type 0
 OfTheEntry =
-    (p : List ℕ) (w h : ℕ) (s : List ℕ) (weights : List Float) (n : ℕ) (strength : Float) (edge : ℕ) (p′ s′ : List ℕ) →
-    answered 0 (lent p′ s′) ≡ outcome p w h s weights n strength edge → aboveZero strength ≡ true → GridKernel weights → Bytes p →
-    (c x y : ℕ) → c < 4 → x < w → y < h →
-    Within (steps n) n (chan p′ w c x y) (exactBlur (modeOf edge) (numerators weights) n w h (chan p w c) x y)
+    (κs : Lfts 3) (a : Dens κs kinds.ps) (r : ℕ) (left : AtExit (endedOf 3 kinds.ps kinds.r) κs) → blur.Post κs a r left → r ≡ 0 →
+    let p = now (a .0) in
+    let w = a .1 .0 in
+    let h = a .1 .1 .0 in
+    let weights = now (a .1 .1 .1 .1 .0) in
+    let n = a .1 .1 .1 .1 .1 .0 in
+    let strength = a .1 .1 .1 .1 .1 .1 .0 in
+    let edge = a .1 .1 .1 .1 .1 .1 .1 .0 in
+    aboveZero strength ≡ true → GridKernel weights → LentBytes p → NearExact (modeOf edge) weights n w h p (now (left .0))

@@ -2,7 +2,7 @@
 use mathlib.Core.Path.{_≡_, refl}
 use mathlib.Core.Bool.{true, false}
 use mathlib.Core.List.{List, [], _∷_, map}
-use Prim.Native.Nat.{ℕ}
+use Prim.Native.Nat.{ℕ, _+_}
 use lib.IntN.{ℤ, pos, negsuc}
 use lib.ListN.{getD}
 use lib.Ieee.{Float, fin, isNan, lt, neg, add, sub, mul, div, ofInt}
@@ -42,9 +42,9 @@ alphas (a ∷ more) = 0 ∷ 0 ∷ 0 ∷ a ∷ alphas more
 abbrev told : Answer Lent → List ℕ
 told a = a .number ∷ a .left .picture
 
--- where the edge rule puts an integer in a line of 3
+-- one more than the index at which the edge rule puts an integer in a line of 3, and 0 outside
 abbrev edge3 : EdgeMode → ℤ → ℕ
-edge3 mode z = valueAt (placeOf mode 3 z) (λ i. i)
+edge3 mode z = valueAt (placeOf mode 3 z) (λ i. i + 1)
 
 -- 1, 1/2 and 1/4
 abbrev one : Float
@@ -78,8 +78,8 @@ a gives b = record { given = a; says = b }
 
 abbrev pub table : List Case
 table =
-    -- A: for s = 3, Mirror of 5 is 0 and of -4 is 2; Wrap of -4 is 2
-    ((edge3 Mirror (pos 5) ∷ edge3 Mirror (negsuc 3) ∷ edge3 Wrap (negsuc 3) ∷ []) gives (0 ∷ 2 ∷ 2 ∷ []))
+    -- A: for s = 3, Mirror of 5 is 0 and of -4 is 2; Wrap of -4 is 2; each read one higher, since outside reads as 0
+    ((edge3 Mirror (pos 5) ∷ edge3 Mirror (negsuc 3) ∷ edge3 Wrap (negsuc 3) ∷ []) gives (1 ∷ 3 ∷ 3 ∷ []))
     -- B: halve 0, 0, 0, 255, which stand at 1 to 4 and make output 1; and four times 255
     ∷ ((halve Duplicate 5 (row (0 ∷ 0 ∷ 0 ∷ 0 ∷ 255 ∷ [])) 1 ∷ []) gives (32 ∷ []))
     ∷ ((halve Duplicate 5 (row (0 ∷ 255 ∷ 255 ∷ 255 ∷ 255 ∷ [])) 1 ∷ []) gives (255 ∷ []))
