@@ -7,3 +7,5 @@ pub mod Build
 pub mod Planes
 pub mod Passed
 pub mod Answers
+pub mod Settled
+pub mod Conditions
