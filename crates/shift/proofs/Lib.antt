@@ -13,3 +13,4 @@ pub mod Rounded
 pub mod Pixels
 pub mod Entry
 pub mod Determined
+pub mod Conditions
