@@ -11,3 +11,4 @@ pub mod Grid
 pub mod Rounded
 pub mod Taps
 pub mod Kernels
+pub mod Conditions

@@ -7,3 +7,4 @@ pub mod After
 pub mod Turns
 pub mod Fixed
 pub mod Body
+pub mod Bodies

@@ -10,3 +10,5 @@ pub mod Walk
 pub mod Spans
 pub mod Passed
 pub mod Answers
+pub mod Settled
+pub mod Conditions

@@ -12,3 +12,4 @@ pub mod Rounded
 pub mod Pixels
 pub mod Entry
 pub mod Determined
+pub mod Conditions
