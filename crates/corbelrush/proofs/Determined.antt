@@ -6,7 +6,7 @@ use contract.Lifetimes.{Lfts}
 use borrow.Fn.Kinds.{PK, RK, Out, Dens, resT, endedOf}
 use denote.Triple.Clauses.{AtExit}
 use denote.Ref.{now}
-use Rattle.picture.specs.Answer.{answered, lent}
+use Rattle.picture.specs.Answer.{answered, lent, lentCopy}
 use Rattle.drop_shadow.specs.Outcome as shadowing
 use Rattle.corbelrush.specs.Words.{pointers, pictureIn}
 use Rattle.corbelrush.proofs.filters.corbelrush_blur.Reads as blur
@@ -39,7 +39,7 @@ blur-determined κs a r₁ r₂ x₁ x₂ h₁ h₂ = h₁ ∙ sym h₂
 pub shift-determined : Determined shift-kinds.ps shift-kinds.r shift.Post (λ κs r x. answered r (now (x .0)))
 shift-determined κs a r₁ r₂ x₁ x₂ h₁ h₂ = h₁ ∙ sym h₂
 
-pub shadow-determined : Determined shadow-kinds.ps shadow-kinds.r shadow.Post (λ κs r x. answered r (shadowing.lent (now (x .0)) (now (x .1 .1 .1 .0)) (now (x .1 .1 .1 .1 .0))))
+pub shadow-determined : Determined shadow-kinds.ps shadow-kinds.r shadow.Post (λ κs r x. answered r (lentCopy (now (x .0)) (now (x .1 .1 .1 .0)) (now (x .1 .1 .1 .1 .0))))
 shadow-determined κs a r₁ r₂ x₁ x₂ h₁ h₂ = h₁ ∙ sym h₂
 
 pub check-determined : Determined check-kinds.ps check-kinds.r check.Post (λ κs r x. answered r (pointers (now (x .1 .1 .1 .0)) (now (x .1 .1 .1 .1 .0))))

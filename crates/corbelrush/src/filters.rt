@@ -1,7 +1,7 @@
 // Blur, shift and shadow for C.
 use drop_shadow::Recipe;
 ghost use mathlib.Core.Path.{_≡_};
-ghost use Rattle.picture.specs.Answer.{answered, lent};
+ghost use Rattle.picture.specs.Answer.{answered, lent, lentCopy};
 ghost use Rattle.gaussian_blur.specs.Outcome as blurring;
 ghost use Rattle.shift.specs.Outcome as shifting;
 ghost use Rattle.drop_shadow.specs.Outcome as shadowing;
@@ -19,7 +19,7 @@ pub extern "C" fn corbelrush_blur(
     strength: f32,
     edge: u32,
 ) -> u32
-    ensures { λ r. ⌜ answered r (lent (now (picture .exit)) (now (scratch .exit))) ≡ blurring.outcome (now (picture .entry)) w h (now (scratch .entry)) (now (weights .entry)) n strength edge ⌝ }
+    ensures { λ r. ⌜ answered r (lent (now (picture .exit)) (now (scratch .exit))) ≡ blurring.blurOutcome (now (picture .entry)) w h (now (scratch .entry)) (now (weights .entry)) n strength edge ⌝ }
 {
     gaussian_blur::blur(picture, w, h, scratch, weights, n, strength, edge)
 }
@@ -27,7 +27,7 @@ pub extern "C" fn corbelrush_blur(
 // Moves a picture of w by h pixels by dx and dy, as `shift` does.
 #[no_mangle]
 pub extern "C" fn corbelrush_shift(picture: &mut [u8], w: u32, h: u32, dx: f32, dy: f32) -> u32
-    ensures { λ r. ⌜ answered r (now (picture .exit)) ≡ shifting.outcome (now (picture .entry)) w h dx dy ⌝ }
+    ensures { λ r. ⌜ answered r (now (picture .exit)) ≡ shifting.shiftOutcome (now (picture .entry)) w h dx dy ⌝ }
 {
     shift::shift(picture, w, h, dx, dy)
 }
@@ -52,7 +52,7 @@ pub extern "C" fn corbelrush_shadow(
     alpha: f32,
     composite: u32,
 ) -> u32
-    ensures { λ r. ⌜ answered r (shadowing.lent (now (picture .exit)) (now (scratch .exit)) (now (copy .exit))) ≡ shadowing.outcome (now (picture .entry)) w h (now (scratch .entry)) (now (copy .entry)) (now (weights .entry)) n edge (recipe dx dy strength red green blue alpha) (flag composite) ⌝ }
+    ensures { λ r. ⌜ answered r (lentCopy (now (picture .exit)) (now (scratch .exit)) (now (copy .exit))) ≡ shadowing.shadowOutcome (now (picture .entry)) w h (now (scratch .entry)) (now (copy .entry)) (now (weights .entry)) n edge (recipe dx dy strength red green blue alpha) (flag composite) ⌝ }
 {
     let recipe = Recipe {
         dx,

@@ -8,12 +8,12 @@ use borrow.Author.Tests.{eq-eqb, le-ltb}
 use Rattle.picture.specs.Planes.{bytesOf, chan, cleared}
 use Rattle.picture.specs.Answer.{Answer, answered, Lent, lent, settled}
 use Rattle.picture.specs.Modes.{modeOf}
-use Rattle.picture.specs.Refusal.{firstOf, zeroOrAbove, wrongLength, tooShort, maxTaps, wrongTaps, maxDecimations, tooDeep, wrongEdge}
+use Rattle.picture.specs.Refusal.{firstElse, firstOf, zeroOrAbove, wrongLength, tooShort, maxTaps, wrongTaps, maxDecimations, tooDeep, wrongEdge}
 use Rattle.picture.specs.declared.EdgeMode.the-variants.{Duplicate}
 use Rattle.picture.proofs.Planes.{length-painted}
 use Rattle.binary32.specs.Ranges.{one32, finite, outsideUnit, anyOf, anyOutside}
 use Rattle.gaussian_blur.specs.Blurred.{blurredPlane, blurred}
-use Rattle.gaussian_blur.specs.Outcome.{blurChecks, blurredOrKept, outcome}
+use Rattle.gaussian_blur.specs.Outcome.{blurChecks, blurredOrKept, blurOutcome}
 use Rattle.job.specs.Job.{plateWeights, plateBlur}
 use Rattle.job.specs.Steps.{BodyFits}
 use Rattle.job.proofs.After.{Keeps}
@@ -24,14 +24,14 @@ keeps w h body = length-painted w h (λ k. blurredPlane Duplicate plateWeights 1
 
 module _ (w h : ℕ) (part scratch : List ℕ) (f : BodyFits w h part scratch) where
   accepted : firstOf (blurChecks (length part) w h (length scratch) plateWeights 1 one32 0) ≡ 0
-  unfolding firstOf zeroOrAbove wrongLength tooShort maxTaps wrongTaps maxDecimations tooDeep wrongEdge finite outsideUnit anyOf anyOutside lt isNan
+  unfolding firstOf firstElse zeroOrAbove wrongLength tooShort maxTaps wrongTaps maxDecimations tooDeep wrongEdge finite outsideUnit anyOf anyOutside lt isNan
   accepted = rw (f .sides, eq-eqb (length part) (bytesOf w h) (f .exact), le-ltb (length scratch) (bytesOf w h) (f .room))
 
-  left : outcome part w h scratch plateWeights 1 one32 0 ≡ answered 0 (lent (plateBlur w h part) (cleared (bytesOf w h) scratch))
-  unfolding outcome settled plateBlur modeOf
+  left : blurOutcome part w h scratch plateWeights 1 one32 0 ≡ answered 0 (lent (plateBlur w h part) (cleared (bytesOf w h) scratch))
+  unfolding blurOutcome settled plateBlur modeOf
   left = rw accepted
 
   -- what a call of the blur leaves
-  pub fixed : {r : ℕ} {part′ work : List ℕ} → answered r (lent part′ work) ≡ outcome part w h scratch plateWeights 1 one32 0 →
+  pub fixed : {r : ℕ} {part′ work : List ℕ} → answered r (lent part′ work) ≡ blurOutcome part w h scratch plateWeights 1 one32 0 →
       lent part′ work ≡ lent (plateBlur w h part) (cleared (bytesOf w h) scratch)
   fixed e = ap (λ (a : Answer Lent). a .left) (e ∙ left)

@@ -6,7 +6,7 @@ use Prim.Native.Nat.{ℕ, _+_, _<_, _≤_}
 use native.Mathlib.Numerals.{add-one}
 use native.Mathlib.Omega.{arith}
 use lib.ListN.{length}
-use Rattle.picture.specs.Planes.{cleared}
+use Rattle.picture.specs.Planes.{cleared, laid}
 use Rattle.picture.specs.Answer.{lent}
 use Rattle.plate_format.specs.Format.{count, entryOf, bodyOffset, isPlate}
 use Rattle.plate_format.proofs.Rules.{plate-entry}
@@ -26,7 +26,7 @@ pub record Turn (blur : BodyBlur) (file scratch : List ℕ) (i start : ℕ) (now
   pub work-is : work ≡ cleared (longestBelow file i) scratch
 
 pub turn-none : {blur : BodyBlur} {file scratch : List ℕ} → Keeps blur → isPlate file ≡ true → longestBody file ≤ length scratch → Turn blur file scratch 0 (bodyOffset file 0) file scratch
-unfolding longestBelow cleared
+unfolding longestBelow cleared laid
 turn-none {blur} {file} keeps plate room =
     record {
       plate = plate;

@@ -6,11 +6,11 @@ use Prim.Native.Nat.{ℕ, _+_}
 use lib.IntN.{ℤ, pos, negsuc}
 use lib.ListN.{getD}
 use lib.Ieee.{Float, fin, isNan, lt, neg, add, sub, mul, div, ofInt}
-use Rattle.picture.specs.Planes.{Line, chan, painted, cleared}
+use Rattle.picture.specs.Planes.{Line, chan, painted, cleared, laid}
 use Rattle.picture.specs.Build.{build}
 use Rattle.picture.specs.Sizes.{maxSide}
 use Rattle.picture.specs.Modes.{modeOf}
-use Rattle.picture.specs.Refusal.{firstOf, zeroOrAbove, wrongSides, wrongLength, tooShort, maxTaps, wrongTaps, maxDecimations, tooDeep, wrongEdge}
+use Rattle.picture.specs.Refusal.{firstElse, firstOf, zeroOrAbove, wrongSides, wrongLength, tooShort, maxTaps, wrongTaps, maxDecimations, tooDeep, wrongEdge}
 use Rattle.picture.specs.Answer.{Answer, Lent, settled}
 use Rattle.picture.specs.declared.EdgeMode.{EdgeMode}
 use Rattle.picture.specs.declared.EdgeMode.the-variants.{Duplicate, Wrap, Mirror, None}
@@ -23,7 +23,7 @@ use Rattle.binary32.specs.Taps.{tap, taps}
 use Rattle.passes.specs.Passes.{halve, double, convolve}
 use Rattle.passes.specs.Blur.{blur}
 use Rattle.gaussian_blur.specs.Blurred.{blurred}
-use Rattle.gaussian_blur.specs.Outcome.{blurredOrKept, outcome}
+use Rattle.gaussian_blur.specs.Outcome.{blurredOrKept, blurOutcome}
 use Rattle.shift.specs.Shift.{moved, shifted, shiftedPicture}
 use Rattle.shift.specs.Outcome.{wrongOffsets}
 use Rattle.shift.specs.Outcome as shift
@@ -58,11 +58,11 @@ quarter = fin false 1 (negsuc 1)
 
 -- the entry's answer on a picture of these alphas, at strength 1 and with a scratch that is just long enough
 abbrev blurs : List ℕ → ℕ → ℕ → List Float → ℕ → ℕ → List ℕ
-blurs as₀ w h weights n edge = told (outcome (alphas as₀) w h (alphas as₀) weights n one edge)
+blurs as₀ w h weights n edge = told (blurOutcome (alphas as₀) w h (alphas as₀) weights n one edge)
 
 -- a row of these alphas, moved by dx
 abbrev shifts : List ℕ → ℕ → Float → List ℕ
-shifts row w dx = let a = shift.outcome (alphas row) w 1 dx (fin false 0 (pos 0)) in a .number ∷ a .left
+shifts row w dx = let a = shift.shiftOutcome (alphas row) w 1 dx (fin false 0 (pos 0)) in a .number ∷ a .left
 
 -- a whole offset: forward, and backward
 abbrev steps : Offset → List ℕ
@@ -106,5 +106,5 @@ table =
 
 -- every case gives what document 01 says
 pub marked : map (λ (c : Case). c .given) table ≡ map (λ (c : Case). c .says) table
-unfolding placeOf place sample halve double convolve blur build chan painted cleared blurred blurredOrKept outcome settled firstOf zeroOrAbove wrongSides maxSide wrongLength tooShort wrongTaps maxTaps tooDeep maxDecimations wrongEdge modeOf finite outsideUnit anyOutside taps tap toByte roundHalfUp wholeOffset isNan lt add mul ofInt neg moved shifted shiftedPicture wrongOffsets shift.outcome norm normByte over sub div
+unfolding placeOf place sample halve double convolve blur build chan painted cleared laid blurred blurredOrKept blurOutcome settled firstOf firstElse zeroOrAbove wrongSides maxSide wrongLength tooShort wrongTaps maxTaps tooDeep maxDecimations wrongEdge modeOf finite outsideUnit anyOutside taps tap toByte roundHalfUp wholeOffset isNan lt add mul ofInt neg moved shifted shiftedPicture wrongOffsets shift.shiftOutcome norm normByte over sub div
 marked = refl

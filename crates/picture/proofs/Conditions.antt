@@ -9,7 +9,7 @@ use lib.Dec.{eqb, ltb}
 use borrow.Author.Tests.{eqb-true, eqb-false, eq-eqb, ne-eqb, ltb-false, le-ltb, not-false}
 use Rattle.picture.specs.Planes.{bytesOf}
 use Rattle.picture.specs.Sizes.{maxSide}
-use Rattle.picture.specs.Refusal.{Check, firstOf, zeroOrAbove, wrongSides, wrongLength, tooShort, maxTaps, wrongTaps, maxDecimations, tooDeep, wrongEdge}
+use Rattle.picture.specs.Refusal.{Check, firstElse, firstOf, zeroOrAbove, wrongSides, wrongLength, tooShort, maxTaps, wrongTaps, maxDecimations, tooDeep, wrongEdge}
 use Rattle.picture.proofs.Tests.{neither}
 use Rattle.picture.proofs.Passed.{passed}
 
@@ -24,7 +24,7 @@ Numbered [] = Unit {0}
 Numbered (k ∷ ks) = (0 < k .number) × Numbered ks
 
 pub each-passes : (ks : List Check) → Numbered ks → (0 ≡ firstOf ks) ↔ EachPasses ks
-unfolding firstOf
+unfolding firstOf firstElse
 each-passes [] n = (λ _. tt, λ _. refl)
 each-passes (k ∷ ks) n =
     (λ e. let p = passed k ks (n .0) e in (p .0, each-passes ks (n .1) .0 (p .1)), λ p. rw (p .0) (each-passes ks (n .1) .1 (p .1)))

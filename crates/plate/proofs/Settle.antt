@@ -8,7 +8,7 @@ use lib.Dec.{leb}
 use lib.ListN.{length}
 use borrow.Author.Tests.{leb-false}
 use Rattle.picture.specs.Answer.{Answer, answered, settled}
-use Rattle.picture.specs.Refusal.{firstOf}
+use Rattle.picture.specs.Refusal.{firstElse, firstOf}
 use Rattle.plate_format.specs.Format.{count, isPlate}
 use Rattle.plate_format.proofs.Rules.{Obeyed, plate-entry}
 use Rattle.plate.specs.Lookup.{Picture, nothing, pictureOf, lookedUp}
@@ -16,17 +16,17 @@ use Rattle.plate.specs.Lookup.{Picture, nothing, pictureOf, lookedUp}
 module _ (file : List ℕ) (index : ℕ) where
   -- 10: no plate
   pub broken : isPlate file ≡ false → answered 10 nothing ≡ lookedUp file index
-  unfolding lookedUp firstOf settled
+  unfolding lookedUp firstOf firstElse settled
   broken p = rw p
 
   module _ (plate : isPlate file ≡ true) where
     -- 12: no such picture
     pub missing : leb (count file) index ≡ true → answered 12 nothing ≡ lookedUp file index
-    unfolding lookedUp firstOf settled
+    unfolding lookedUp firstOf firstElse settled
     missing n = rw (plate, n)
 
     pub there : leb (count file) index ≡ false → answered 0 (pictureOf file index) ≡ lookedUp file index
-    unfolding lookedUp firstOf settled
+    unfolding lookedUp firstOf firstElse settled
     there n = rw (plate, n)
 
   -- what holds of every refusal, and of a picture that is there, holds of the answer

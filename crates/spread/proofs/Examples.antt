@@ -3,7 +3,7 @@ use mathlib.Core.Path.{_≡_, refl}
 use mathlib.Core.List.{[], _∷_}
 use lib.Ieee.{Float, nan, binary32, ofBits, isNan, lt}
 use Rattle.picture.specs.Answer.{answered, settled}
-use Rattle.picture.specs.Refusal.{firstOf, zeroOrAbove, maxTaps, wrongTaps, maxDecimations, tooDeep}
+use Rattle.picture.specs.Refusal.{firstElse, firstOf, zeroOrAbove, maxTaps, wrongTaps, maxDecimations, tooDeep}
 use Rattle.binary32.specs.Ranges.{outsideUnit, anyOf}
 use Rattle.binary32.specs.Grid.{onGrid, numerator, allOnGrid, sum, offGrid}
 use Rattle.spread.specs.Spread.{moment, momentOf, decimationTerm, spreadOf, reported}
@@ -38,5 +38,5 @@ pub reports :
     ∷ reported (quarter ∷ half ∷ []) 0
     ∷ [])
     ≡ (answered 0 65536 ∷ answered 0 655360 ∷ answered 0 0 ∷ answered 4 0 ∷ answered 6 0 ∷ answered 11 0 ∷ answered 11 0 ∷ answered 11 0 ∷ [])
-unfolding ofBits isNan lt settled firstOf zeroOrAbove maxDecimations tooDeep outsideUnit anyOf onGrid numerator allOnGrid sum offGrid maxTaps wrongTaps moment momentOf decimationTerm spreadOf reported
+unfolding ofBits isNan lt settled firstOf firstElse zeroOrAbove maxDecimations tooDeep outsideUnit anyOf onGrid numerator allOnGrid sum offGrid maxTaps wrongTaps moment momentOf decimationTerm spreadOf reported
 reports = refl

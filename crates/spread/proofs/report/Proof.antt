@@ -3,7 +3,7 @@ use mathlib.Core.Path.{_≡_, _∙_, sym}
 use mathlib.Core.Bool.{false}
 use borrow.Author.Tests.{ltb-false}
 use lib.ListN.{length}
-use Rattle.picture.specs.Refusal.{firstOf, maxDecimations, wrongTaps, tooDeep}
+use Rattle.picture.specs.Refusal.{firstElse, firstOf, maxDecimations, wrongTaps, tooDeep}
 use Rattle.picture.specs.Answer.{settled}
 use Rattle.binary32.specs.Grid.{offGrid}
 use Rattle.spread.specs.Spread.{reported}
@@ -16,7 +16,7 @@ wrong-taps-requires : tie.Need-wrong-taps-requires
 wrong-taps-requires c κs = search needs
 
 returns : tie.Need-returns
-unfolding reported settled firstOf
+unfolding reported settled firstOf firstElse
 returns c = rw (sym (c .before .wrong-taps .ensures) ∙ c .if1 .taken)
 
 too-deep-requires : tie.Need-too-deep-requires
@@ -33,14 +33,14 @@ on-grid : (c : tie.Else3) → offGrid (c .before .before .before .before .before
 on-grid c = sym (c .before .off-grid .ensures) ∙ c .if3 .left
 
 returns-2 : tie.Need-returns-2
-unfolding reported settled firstOf
+unfolding reported settled firstOf firstElse
 returns-2 c = rw (few (c .before .before), sym (c .before .too-deep .ensures) ∙ c .if2 .taken)
 
 off-grid-requires : tie.Need-off-grid-requires
 off-grid-requires c κs = search needs
 
 returns-3 : tie.Need-returns-3
-unfolding reported settled firstOf
+unfolding reported settled firstOf firstElse
 returns-3 c = rw (few (c .before .before .before .before), shallow (c .before .before), sym (c .before .off-grid .ensures) ∙ c .if3 .taken)
 
 spread-of-requires : tie.Need-spread-of-requires
@@ -48,7 +48,7 @@ unfolding tooDeep
 spread-of-requires c κs = (kernel _ (few (c .before .before .before .before)) (on-grid c), ltb-false maxDecimations _ (shallow (c .before .before)))
 
 returns-4 : tie.Need-returns-4
-unfolding reported settled firstOf
+unfolding reported settled firstOf firstElse
 returns-4 c =
     rw (few (c .before .before .before .before .before), shallow (c .before .before .before), on-grid (c .before), c .spread-of .ensures)
 
