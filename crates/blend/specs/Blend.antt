@@ -26,6 +26,7 @@ abbrev pub weightOf : At → ℕ → ℕ
 weightOf (Inside i) weight = weight
 weightOf Outside weight = 0
 
+-- the tap that reads a place in a weight
 abbrev pub tapOf : At → ℕ → ℕ → ℕ → Tap
 tapOf p start stride weight = record { at = startOf p start stride; weight = weightOf p weight }
 

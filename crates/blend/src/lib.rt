@@ -34,7 +34,7 @@ fn find_place(c: usize, d: usize, s: usize, mode: EdgeMode) -> At
     extend(c, d, s, mode)
 }
 
-// The bytes of a place in a weight.
+// The bytes of a place of the line at start, in a weight. Outside they are the line's first, in weight 0, so that a loop over lanes has no branch.
 fn tap_of(p: At, start: usize, stride: usize, weight: u16) -> Tap
     requires { ⌜ startOf p start stride < 2 ^ 64 ⌝ }
     ensures { λ r. ⌜ r ≡ tapOf p start stride weight ⌝ }
@@ -51,7 +51,7 @@ fn tap_of(p: At, start: usize, stride: usize, weight: u16) -> Tap
     }
 }
 
-// Four bytes in their weights, over 8, rounded.
+// Four bytes in their weights, over 8, rounded, halves upward.
 fn blend(a: u8, b: u8, c: u8, d: u8, wa: u16, wb: u16, wc: u16, wd: u16) -> u8
     requires { ⌜ wa + wb + wc + wd ≤ 8 ⌝ }
     ensures { λ r. ⌜ r ≡ (wa * a + wb * b + wc * c + wd * d + 4) / 8 ⌝ }
@@ -59,7 +59,7 @@ fn blend(a: u8, b: u8, c: u8, d: u8, wa: u16, wb: u16, wc: u16, wd: u16) -> u8
     ((wa * a as u16 + wb * b as u16 + wc * c as u16 + wd * d as u16 + 4) / 8) as u8
 }
 
-// The bytes of four places of a line, blended into an element at o.
+// The bytes of four places of the line at start, blended in weights 1, 3, 3, 1 into the element at o.
 fn blend_element(
     src: &[u8],
     a: At,
@@ -129,7 +129,7 @@ fn sample_pixel(src: &[u8], start: usize, len: usize, c: usize, d: usize, mode: 
     }
 }
 
-// Four pixels blended, channel by channel.
+// Four pixels blended in weights 1, 3, 3, 1, channel by channel.
 fn blend_pixels(p: Pixel, q: Pixel, r: Pixel, s: Pixel) -> Pixel
     ensures { λ m. ⌜ m ≡ mixPixels p q r s ⌝ }
 {
@@ -153,7 +153,7 @@ fn write_pixel(dst: &mut [u8], o: usize, i: usize, p: Pixel)
     dst[at + 3] = p.a;
 }
 
-// Output x of a line of len elements, halved: an element at o.
+// Output x of a line of len elements, halved, into the element at o.
 pub fn halve_element(
     src: &[u8],
     start: usize,
@@ -174,7 +174,7 @@ pub fn halve_element(
     blend_element(src, a, b, c, d, start, stride, dst, o);
 }
 
-// Output y of a line of len elements, doubled: weights 1, 3 over 4 are weights 1, 3, 3, 1 over 8.
+// Output y of a line of len elements, doubled, into the element at o: weights 1, 3 over 4 are weights 1, 3, 3, 1 over 8.
 pub fn double_element(
     src: &[u8],
     start: usize,
@@ -199,7 +199,7 @@ pub fn double_element(
     }
 }
 
-// Output x of a row, halved, by pixels: a place's bytes go from one function to the next, and not the place.
+// Output x of a row, halved, into the pixel at o. It samples whole pixels: a place that is handed on as an enum goes through memory, and a pixel does not.
 pub fn halve_end(
     src: &[u8],
     start: usize,
@@ -220,7 +220,7 @@ pub fn halve_end(
     write_pixel(dst, o, 0, blend_pixels(p, q, r, s));
 }
 
-// Output y of a row, doubled, by pixels: the one at x = y / 2, and the one before it where y is even, after it where y is odd.
+// Output y of a row, doubled, into the pixel at o: the pixel at x = y / 2, and the one before it where y is even, after it where y is odd.
 pub fn double_end(
     src: &[u8],
     start: usize,
@@ -240,7 +240,7 @@ pub fn double_end(
     write_pixel(dst, o, 0, blend_pixels(p, q, q, p));
 }
 
-// Output x of a row, halved, whose samples lie inside.
+// Output x of a row, halved, whose samples lie inside. All are read before one is stored, so that the compiler keeps a pixel's channels in one vector.
 pub fn halve_pixel(src: &[u8], start: usize, len: usize, dst: &mut [u8], o: usize, x: usize)
     requires { ⌜ (0 < x) × (2 * x + 2 < len) × Room (now src) (now dst) start 4 len o (x + 1) ⌝ }
     ensures { λ _. ⌜ PassPartInside halve (now (src .entry)) (now (dst .entry)) (now (dst .exit)) start len o x (x + 1) ⌝ }
@@ -253,7 +253,7 @@ pub fn halve_pixel(src: &[u8], start: usize, len: usize, dst: &mut [u8], o: usiz
     write_pixel(dst, o, x, blend_pixels(p, q, r, s));
 }
 
-// Outputs 2x and 2x + 1 of a row, doubled, whose samples lie inside.
+// Outputs 2x and 2x + 1 of a row, doubled, whose samples lie inside, by whole pixels as `halve_pixel` does.
 pub fn double_pixel(src: &[u8], start: usize, len: usize, dst: &mut [u8], o: usize, x: usize)
     requires { ⌜ (0 < x) × (x + 1 < len) × Room (now src) (now dst) start 4 len o (2 * x + 2) ⌝ }
     ensures { λ _. ⌜ PassPartInside double (now (src .entry)) (now (dst .entry)) (now (dst .exit)) start len o (2 * x) (2 * x + 2) ⌝ }

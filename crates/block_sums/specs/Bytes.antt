@@ -11,9 +11,10 @@ use Rattle.blocks.specs.Blocks.{Made}
 abbrev pub Convolved : EdgeMode → List Float → List ℕ → ℕ → ℕ → ℕ → (ℕ → Type 0) → List ℕ → List ℕ → Type 0
 Convolved mode weights src start len stride R old new = Made 0 (lineByte (convolve mode weights) src start len stride) R old new
 
--- the bytes of the elements x up to y, and of those the ones of the lanes p up to q
+-- the bytes of the elements x up to y
 abbrev pub Elements : ℕ → ℕ → ℕ → ℕ → Type 0
 Elements stride x y j = (x ≤ j / stride) × (j / stride < y)
 
+-- the bytes of the lanes p up to q of the elements x up to y
 abbrev pub Strip : ℕ → ℕ → ℕ → ℕ → ℕ → ℕ → Type 0
 Strip stride x y p q j = (x ≤ j / stride) × (j / stride < y) × (p ≤ j % stride) × (j % stride < q)

@@ -14,10 +14,11 @@ pub record Source (src : List ℕ) (weights : List Float) (start len stride : �
   pub stride-low : 0 < stride
   pub end : start + len * stride ≤ length src
 
--- elements of at most this many bytes are taken whole, others in strips of at most so many lanes
+-- elements of at most this many bytes are taken whole, others in strips: the code's WHOLE, where its reason stands
 abbrev pub whole : ℕ
 whole = 32
 
+-- the most lanes of a strip: the code's LANES
 abbrev pub lanes : ℕ
 lanes = 128
 

@@ -1,18 +1,20 @@
 // One block of a line convolved: it is filled with its values, which are summed lane by lane under each tap and
 // rounded.
-ghost use mathlib.Core.Path.{_≡_};
-ghost use Prim.Native.Nat.{ℕ, _+_, _-_, _*_, _≤_, _<_, min};
+ghost use Prim.Native.Nat.{_+_, _-_, _*_, _≤_, _<_, min};
 ghost use lib.ListN.{length};
 ghost use Rattle.block_sums.specs.Bytes.{Convolved, Elements, Strip};
 ghost use Rattle.block_sums.specs.Room.{Source, lanes, BlockBuffers};
 use picture::EdgeMode;
 
-// Elements of at most this many bytes are taken whole, others in strips of at most so many lanes.
+// Elements of at most this many bytes are taken whole: by themselves they are too few lanes for a loop, so that a block's elements are summed
+// in one. Longer ones go in strips, a loop for each element.
 pub const WHOLE: usize = 32;
 
+// The most lanes of a strip. With 256, 33 taps gain at most some 5 % and small pictures lose far more: the buffer of values, zeroed once a
+// pass, is then twice as large.
 pub const LANES: usize = 128;
 
-// Outputs x up to x + m of a line, whose elements are taken whole.
+// Outputs x up to x + m of the line at start, whose elements are taken whole, into dst.
 pub fn convolve_whole(
     line: &mut [f32],
     acc: &mut [f32],
@@ -36,7 +38,7 @@ pub fn convolve_whole(
     lanes::weigh(dst, x * stride, m * stride, acc, line, 0, stride, weights);
 }
 
-// n lanes of them, from lane `from` on.
+// Of outputs x up to x + m of the line at start, n lanes from lane `from` on, into dst.
 fn convolve_strip(
     line: &mut [f32],
     acc: &mut [f32],
@@ -88,7 +90,7 @@ fn convolve_strip(
     }
 }
 
-// All lanes of them, strip by strip.
+// Outputs x up to x + m of the line at start, strip by strip, into dst.
 fn convolve_strips(
     line: &mut [f32],
     acc: &mut [f32],
@@ -128,7 +130,7 @@ fn convolve_strips(
     }
 }
 
-// Outputs x up to x + m, whole or in strips.
+// Outputs x up to x + m of the line at start, whole or in strips, into dst.
 pub fn convolve_block(
     line: &mut [f32],
     acc: &mut [f32],

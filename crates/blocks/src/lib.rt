@@ -1,7 +1,7 @@
 // The values that a convolution reads: bytes made floats once for a block of elements. Edges are worked out as a
 // block is filled, once for each element.
 ghost use mathlib.Core.Path.{_≡_};
-ghost use Prim.Native.Nat.{ℕ, _+_, _-_, _*_, _≤_, _<_, min};
+ghost use Prim.Native.Nat.{_+_, _-_, _*_, _≤_, _<_, min};
 ghost use lib.Ieee.{nan};
 ghost use lib.ListN.{length};
 ghost use Rattle.picture.specs.Spans.{Run};
@@ -12,7 +12,7 @@ ghost use Rattle.blocks.specs.Blocks.{blockValue, Made};
 use edges::At;
 use picture::EdgeMode;
 
-// The lesser of two.
+// The lesser of two numbers.
 pub fn least(a: usize, b: usize) -> usize
     ensures { λ r. ⌜ r ≡ min a b ⌝ }
 {
@@ -26,7 +26,7 @@ fn excess(a: usize, b: usize) -> usize
     if b < a { a - b } else { 0 }
 }
 
-// n lanes, from lane `from` on, of the element that c - d reads: values from a on, and zeros where there is none.
+// Of the element that c - d reads, n lanes from lane `from` on, as floats into line from a on: zeros where there is no such element.
 fn fill_element(
     line: &mut [f32],
     a: usize,
@@ -49,7 +49,7 @@ fn fill_element(
     }
 }
 
-// Elements `first` up to `last` of a block, n lanes of each.
+// Of a block, the elements `first` up to `last`, which x + first - d up to x + last - d read: n lanes of each from lane `from` on, into line.
 pub fn fill(
     line: &mut [f32],
     n: usize,
@@ -86,7 +86,8 @@ pub fn fill(
     }
 }
 
-// A block of `count` whole elements, of which those inside lie in one run.
+// A block of `count` whole elements, the first of which x - d reads, into line. Those inside lie in one run and are widened by one loop; the
+// edge rule is asked only for those before and after it.
 pub fn fill_whole(
     line: &mut [f32],
     count: usize,

@@ -26,7 +26,7 @@ room-still {stride = stride} {most = most} {m = m} b l a s h =
       strip = omega (arith, b .strip);
     }
 
--- the small buffers have room for a few small elements, and what the taps add at their ends
+-- the small buffers, of (8 + 32) * 32 values and 8 * 32 sums, have room for a few small elements and what the taps add at their ends
 pub short-room : {weights : List Float} → Kernel weights → (m stride : ℕ) {l a : ℕ} → l ≡ 1280 → a ≡ 256 → m ≤ short → stride ≤ whole →
     ((m + (length weights - 1)) * stride ≤ l) × (m * stride ≤ a)
 unfolding maxTaps
@@ -34,7 +34,7 @@ short-room {weights} w m stride l a h r =
     let k : m + (length weights - 1) ≤ 40 = omega (arith, most-taps w) in
     (omega (arith, mul-le-mul k r), omega (arith, mul-le-mul h r))
 
--- elements of any size, at most 1024 sums of whole ones
+-- the large buffers, of (1024 / 32 + 32) * 128 values and 1024 sums, have room for blocks of elements of any size
 pub long-room : {v : Float} {stride w : ℕ} → 0 < stride → w ≡ min stride whole → BlockBuffers (replicate 8192 v) (replicate 1024 v) stride (1024 / w)
 unfolding maxTaps
 long-room {v} {stride} {w} z e =

@@ -16,6 +16,6 @@ pub record ConvolveLines (src dst : List ℕ) (weights : List Float) (lines len 
   pub src-size : length src ≡ lines * (len * stride)
   pub dst-size : length dst ≡ lines * (len * stride)
 
--- lines of at most this many elements that are taken whole go in small buffers
+-- lines of at most this many elements that are taken whole go in small buffers: the code's SHORT, where its reason stands
 abbrev pub short : ℕ
 short = 8

@@ -3,7 +3,7 @@ use mathlib.Core.Path.{_≡_, refl, sym, ap, _∙_}
 use mathlib.Core.Bool.{Bool, true, false, cond}
 use mathlib.Core.List.{List}
 use Prim.Native.Nat.{ℕ, _+_, _*_, _≤_, _<_}
-use native.Mathlib.Nat.{mul-assoc, mul-comm, mul-left-comm, mul-le-mul}
+use native.Mathlib.Nat.{mul-le-mul}
 use native.Mathlib.Omega.{arith}
 use borrow.Author.Tests.{eqb-true}
 use lib.Dec.{eqb}
@@ -20,18 +20,12 @@ use Rattle.passes.specs.Written.{passed}
 use Rattle.passes.proofs.Levels.{level-passed}
 use Rattle.passes.proofs.Local.{Local, halve-local, double-local}
 use Rattle.passes.proofs.OneWide.{one-wide}
+use Rattle.passes.proofs.Planes.{rows-bytes, cols-bytes}
 use Rattle.decimate.specs.declared.Resize.{Resize}
 use Rattle.decimate.specs.declared.Resize.the-variants.{Halve, Double}
 use Rattle.decimate.specs.declared.Rows.{Rows}
 use Rattle.decimate.specs.Resize.{passOf, rowsOf}
 use Rattle.decimate.specs.Room.{ResizeLines, Levels, LevelBuffers}
-
--- a level's bytes are h rows of w pixels, and one line of h rows
-rows-bytes : (w h : ℕ) → bytesOf w h ≡ h * (w * 4)
-rows-bytes w h = omega (arith, mul-assoc h w 4, mul-comm h w)
-
-cols-bytes : (w h : ℕ) → bytesOf w h ≡ 1 * (h * (4 * w))
-cols-bytes w h = omega (arith, mul-left-comm h 4 w, mul-comm h w)
 
 -- either pass looks only at its line
 local : (kind : Resize) (mode : EdgeMode) → Local (passOf kind mode)

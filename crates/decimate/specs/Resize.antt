@@ -10,7 +10,7 @@ use Rattle.decimate.specs.declared.Resize.{Resize}
 use Rattle.decimate.specs.declared.Resize.the-variants.{Halve, Double}
 use Rattle.decimate.specs.declared.Rows.{Rows}
 
--- the pass
+-- the pass of a kind
 abbrev pub passOf : Resize → EdgeMode → Pass
 passOf Halve mode = halve mode
 passOf Double mode = double mode
@@ -20,11 +20,12 @@ abbrev pub Makes : Resize → ℕ → ℕ → Type 0
 Makes Halve len out = out ≡ half len
 Makes Double len out = len ≡ half out
 
--- the outputs from the first number up to the second have all their samples inside
+-- the first output of a row whose samples all lie inside
 abbrev pub innerFrom : Resize → ℕ
 innerFrom Halve = 1
 innerFrom Double = 2
 
+-- the end of the outputs of a row of len pixels whose samples all lie inside
 abbrev pub innerTo : Resize → ℕ → ℕ
 innerTo Halve len = (len - 1) / 2
 innerTo Double len = 2 * len - 2

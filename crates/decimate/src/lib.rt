@@ -19,19 +19,19 @@ use blend::halve_pixel;
 use picture::EdgeMode;
 use picture::LevelSize;
 
-// Which of the two a line takes.
+// Whether a line is halved or doubled.
 pub enum Resize {
     Halve,
     Double,
 }
 
-// How rows are taken as lines.
+// Rows as lines: how many, and the bytes of an element.
 struct Rows {
     lines: usize,
     stride: usize,
 }
 
-// Output y of a line of len elements, by kind.
+// Output y of a line of len elements, by kind, into the element at o.
 fn resize_element(
     src: &[u8],
     start: usize,
@@ -52,7 +52,7 @@ fn resize_element(
     }
 }
 
-// Outputs `from` up to `to` of a line of len elements.
+// Outputs `from` up to `to` of a line of len elements, into the line at o.
 fn resize_part(
     src: &[u8],
     start: usize,
@@ -75,7 +75,7 @@ fn resize_part(
     }
 }
 
-// Output y of a row of len pixels, by kind.
+// Output y of a row of len pixels, by kind, into the pixel at o.
 fn resize_end(
     src: &[u8],
     start: usize,
@@ -95,7 +95,7 @@ fn resize_end(
     }
 }
 
-// Outputs `from` up to `to` of a row of len pixels.
+// Outputs `from` up to `to` of a row of len pixels, into the row at o.
 fn resize_ends(
     src: &[u8],
     start: usize,
@@ -117,7 +117,7 @@ fn resize_ends(
     }
 }
 
-// The first output of a row whose samples lie inside, ..
+// The first output of a row whose samples all lie inside.
 fn inner_from(kind: Resize) -> usize
     ensures { λ r. ⌜ r ≡ innerFrom kind ⌝ }
 {
@@ -127,7 +127,7 @@ fn inner_from(kind: Resize) -> usize
     }
 }
 
-// .. and the end of those outputs.
+// The end of the outputs of a row of len pixels whose samples all lie inside.
 fn inner_to(len: usize, kind: Resize) -> usize
     requires { ⌜ (0 < len) × (len ≤ sideRoom) ⌝ }
     ensures { λ r. ⌜ r ≡ innerTo kind len ⌝ }
@@ -138,7 +138,7 @@ fn inner_to(len: usize, kind: Resize) -> usize
     }
 }
 
-// The outputs of a row, halved, whose samples lie inside, ..
+// The outputs of a row, halved, whose samples all lie inside, into the row at o.
 fn halve_inner(src: &[u8], start: usize, len: usize, dst: &mut [u8], o: usize)
     requires { ⌜ (2 < len) × Room (now src) (now dst) start 4 len o (innerTo Resize.Halve len) ⌝ }
     ensures { λ _. ⌜ PassPartInside halve (now (src .entry)) (now (dst .entry)) (now (dst .exit)) start len o (innerFrom Resize.Halve) (innerTo Resize.Halve len) ⌝ }
@@ -150,7 +150,7 @@ fn halve_inner(src: &[u8], start: usize, len: usize, dst: &mut [u8], o: usize)
     }
 }
 
-// .. and those of a row, doubled: two to a pixel.
+// The outputs of a row, doubled, whose samples all lie inside, into the row at o: two to a pixel.
 fn double_inner(src: &[u8], start: usize, len: usize, dst: &mut [u8], o: usize)
     requires { ⌜ (2 < len) × Room (now src) (now dst) start 4 len o (innerTo Resize.Double len) ⌝ }
     ensures { λ _. ⌜ PassPartInside double (now (src .entry)) (now (dst .entry)) (now (dst .exit)) start len o (innerFrom Resize.Double) (innerTo Resize.Double len) ⌝ }
@@ -162,7 +162,7 @@ fn double_inner(src: &[u8], start: usize, len: usize, dst: &mut [u8], o: usize)
     }
 }
 
-// The outputs of a row whose samples lie inside, by kind.
+// The outputs of a row whose samples all lie inside, by kind, into the row at o.
 fn resize_inner(src: &[u8], start: usize, len: usize, dst: &mut [u8], o: usize, kind: Resize)
     requires { ⌜ (2 < len) × Room (now src) (now dst) start 4 len o (innerTo kind len) ⌝ }
     ensures { λ _. ⌜ PassPartInside (passOf kind) (now (src .entry)) (now (dst .entry)) (now (dst .exit)) start len o (innerFrom kind) (innerTo kind len) ⌝ }
@@ -173,7 +173,7 @@ fn resize_inner(src: &[u8], start: usize, len: usize, dst: &mut [u8], o: usize, 
     }
 }
 
-// A row of at least three pixels: outputs at both ends by the edge rule, and those between with no test.
+// A row of at least three pixels, so that some output has all samples inside: outputs at both ends by the edge rule, those between with no test.
 fn resize_row(
     src: &[u8],
     start: usize,
@@ -194,7 +194,7 @@ fn resize_row(
     resize_ends(src, start, len, dst, o, to, out, mode, kind);
 }
 
-// A line: by the shorter way where it is a row of pixels.
+// A line into the line at o. A row of pixels goes by whole pixels, in less than half the time of a loop over the four bytes of each.
 fn resize_line(
     src: &[u8],
     start: usize,
@@ -245,7 +245,7 @@ pub fn resize_lines(
 }
 
 // h rows of w pixels that become v wide, as lines. No side is 0: where the two sum to 2, every row is one pixel and stays so, and all
-// rows are one element of one line.
+// rows are one element of one line, since h lines of four bytes each cost far more.
 fn rows_of(w: usize, h: usize, v: usize) -> Rows
     requires { ⌜ (w ≤ sideRoom) × (h ≤ sideRoom) × (v ≤ sideRoom) ⌝ }
     ensures { λ r. ⌜ r ≡ rowsOf w h v ⌝ }

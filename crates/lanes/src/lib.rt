@@ -1,4 +1,5 @@
-// Loops over lanes: bytes made floats, weighted sums of floats, and sums made bytes.
+// Loops over lanes: bytes made floats, weighted sums of floats, and sums made bytes. Each goes over values that lie one after the
+// other, with no branch inside, so that the compiler makes vector code of it.
 ghost use mathlib.Core.Path.{_≡_};
 ghost use Prim.Native.Nat.{ℕ, _+_, _≤_, _<_};
 ghost use lib.Dec.{T};
@@ -9,7 +10,7 @@ ghost use Rattle.binary32.specs.Round.{toByte};
 ghost use Rattle.picture.specs.Spans.{Run};
 ghost use Rattle.lanes.specs.Lanes.{widened, addTap, laneSum, Reaches};
 
-// n bytes from s on, as floats from a on.
+// The n bytes of src from s on, as floats into line from a on.
 pub fn widen(line: &mut [f32], a: usize, n: usize, src: &[u8], s: usize)
     requires { ⌜ a + n ≤ length (now line) ⌝ ∗ ⌜ s + n ≤ length (now src) ⌝ }
     ensures { λ _. ⌜ Run nan (now (line .entry)) (now (line .exit)) a n (λ i. widened (getD (now (src .entry)) (s + i) 0)) ⌝ }
@@ -21,7 +22,7 @@ pub fn widen(line: &mut [f32], a: usize, n: usize, src: &[u8], s: usize)
     }
 }
 
-// n zeros from a on.
+// n zeros into line from a on: what samples outside read.
 pub fn clear(line: &mut [f32], a: usize, n: usize)
     requires { ⌜ a + n ≤ length (now line) ⌝ }
     ensures { λ _. ⌜ Run nan (now (line .entry)) (now (line .exit)) a n (λ _. zero32) ⌝ }
@@ -33,7 +34,7 @@ pub fn clear(line: &mut [f32], a: usize, n: usize)
     }
 }
 
-// The first tap of n sums.
+// The first tap of the first n sums of acc. Each starts from 0.0, so that a product of minus zero makes no sum of minus zero.
 fn first_tap(acc: &mut [f32], n: usize, line: &[f32], a: usize, k: f32)
     requires { ⌜ n ≤ length (now acc) ⌝ ∗ ⌜ a + n ≤ length (now line) ⌝ }
     ensures { λ _. ⌜ Run nan (now (acc .entry)) (now (acc .exit)) 0 n (λ i. addTap zero32 (getD (now (line .entry)) (a + i) nan) k) ⌝ }
@@ -45,7 +46,7 @@ fn first_tap(acc: &mut [f32], n: usize, line: &[f32], a: usize, k: f32)
     }
 }
 
-// One more tap.
+// One tap more for the first n sums of acc.
 fn add_tap(acc: &mut [f32], n: usize, line: &[f32], a: usize, k: f32)
     requires { ⌜ n ≤ length (now acc) ⌝ ∗ ⌜ a + n ≤ length (now line) ⌝ }
     ensures { λ _. ⌜ Run nan (now (acc .entry)) (now (acc .exit)) 0 n (λ i. addTap (getD (now (acc .entry)) i nan) (getD (now (line .entry)) (a + i) nan) k) ⌝ }
@@ -57,7 +58,7 @@ fn add_tap(acc: &mut [f32], n: usize, line: &[f32], a: usize, k: f32)
     }
 }
 
-// Two more, one after the other.
+// Two taps more for the first n sums of acc, one after the other, so that a sum is loaded and stored once for both.
 fn add_two(acc: &mut [f32], n: usize, line: &[f32], a: usize, k: f32, b: usize, l: f32)
     requires { ⌜ n ≤ length (now acc) ⌝ ∗ ⌜ a + n ≤ length (now line) ⌝ ∗ ⌜ b + n ≤ length (now line) ⌝ }
     ensures { λ _. ⌜ Run nan (now (acc .entry)) (now (acc .exit)) 0 n (λ i. addTap (addTap (getD (now (acc .entry)) i nan) (getD (now (line .entry)) (a + i) nan) k) (getD (now (line .entry)) (b + i) nan) l) ⌝ }
@@ -69,7 +70,7 @@ fn add_two(acc: &mut [f32], n: usize, line: &[f32], a: usize, k: f32, b: usize, 
     }
 }
 
-// n sums of the values from a on, under all weights in order.
+// The first n sums of acc: the values of line from a on, under all weights in order. Under weight j stands the value j steps on.
 fn sums(acc: &mut [f32], n: usize, line: &[f32], a: usize, step: usize, weights: &[f32])
     requires { ⌜ n ≤ length (now acc) ⌝ ∗ ⌜ Reaches (now line) (now weights) a step n ⌝ }
     ensures { λ _. ⌜ ((i : ℕ) → i < n → getD (now (acc .exit)) i nan ≡ laneSum (now (line .entry)) a step (now (weights .entry)) (length (now (weights .entry))) i) ⌝ }
@@ -86,7 +87,7 @@ fn sums(acc: &mut [f32], n: usize, line: &[f32], a: usize, step: usize, weights:
     }
 }
 
-// n sums as bytes from o on.
+// The first n sums of acc, rounded to bytes into dst from o on.
 fn round_lanes(dst: &mut [u8], o: usize, n: usize, acc: &[f32])
     requires { ⌜ o + n ≤ length (now dst) ⌝ ∗ ⌜ n ≤ length (now acc) ⌝ ∗ ⌜ ((i : ℕ) → i < n → T (nonneg (getD (now acc) i nan))) ⌝ }
     ensures { λ _. ⌜ Run 0 (now (dst .entry)) (now (dst .exit)) o n (λ i. toByte (getD (now (acc .entry)) i nan)) ⌝ }
@@ -98,7 +99,7 @@ fn round_lanes(dst: &mut [u8], o: usize, n: usize, acc: &[f32])
     }
 }
 
-// n lanes of a line from a on under all weights, as bytes from o on. acc is room for the sums.
+// n lanes of line from a on, summed under all weights, as bytes into dst from o on. acc is room for the sums.
 pub fn weigh(
     dst: &mut [u8],
     o: usize,

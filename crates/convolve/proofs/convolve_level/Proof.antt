@@ -2,7 +2,6 @@
 use mathlib.Core.Path.{_≡_, _∙_}
 use mathlib.Core.List.{List}
 use Prim.Native.Nat.{ℕ, _*_}
-use native.Mathlib.Nat.{mul-comm, mul-assoc, mul-left-comm, one-mul}
 use native.Mathlib.Omega.{arith}
 use borrow.Author.Needs.{needs}
 use denote.Ref.{now}
@@ -14,15 +13,16 @@ use Rattle.passes.specs.Levels.{levelPass}
 use Rattle.passes.specs.Written.{passed}
 use Rattle.passes.proofs.Levels.{level-passed}
 use Rattle.passes.proofs.Local.{Local, convolve-local}
+use Rattle.passes.proofs.Planes.{rows-bytes, cols-bytes}
 use Rattle.convolve.proofs.convolve_level.Statement.{statement}
 use Rattle.convolve.proofs.convolve_level.Tie as tie
 
 -- the bytes of a level, as its rows and as its columns
 rows-size : (s : LevelSize) (w h n : ℕ) → w ≡ s .w → h ≡ s .h → n ≡ levelBytes s → n ≡ h * (w * 4)
-rows-size s w h n ew eh e = rw (ew, eh) (e ∙ omega (arith, mul-comm (s .w) (s .h), mul-assoc (s .h) (s .w) 4))
+rows-size s w h n ew eh e = rw (ew, eh) (e ∙ rows-bytes (s .w) (s .h))
 
 cols-size : (s : LevelSize) (w h n : ℕ) → w ≡ s .w → h ≡ s .h → n ≡ levelBytes s → n ≡ 1 * (h * (4 * w))
-cols-size s w h n ew eh e = rw (ew, eh) (e ∙ omega (arith, mul-comm (s .w) (s .h), mul-left-comm (s .h) 4 (s .w), one-mul (s .h * (4 * s .w))))
+cols-size s w h n ew eh e = rw (ew, eh) (e ∙ cols-bytes (s .w) (s .h))
 
 convolve-rows-requires : tie.Need-convolve-rows-requires
 convolve-rows-requires c κs =

@@ -6,7 +6,6 @@ use native.Mathlib.Omega.{arith}
 use borrow.Author.Needs.{needs}
 use lib.Ieee.{binary32, ofBits}
 use lib.ListN.{length, length-take, length-drop, length-replicate}
-use denote.Ref.{now}
 use Rattle.passes.specs.Passes.{convolve}
 use Rattle.passes.proofs.Written.{Lined, lined-none, line-ends, lined-all}
 use Rattle.convolve.proofs.Lent.{line-more}

@@ -3,7 +3,6 @@ use mathlib.Core.Path.{_≡_, refl, _∙_}
 use Prim.Native.Nat.{_+_, _-_, _*_, _≤_, _<_, _^_}
 use native.Mathlib.Omega.{arith}
 use lib.ListN.{length, length-take, length-drop}
-use denote.Ref.{now}
 use Rattle.passes.specs.Passes.{convolve}
 use Rattle.passes.proofs.Written.{Lined, lined-none, line-ends, lined-all}
 use Rattle.convolve.proofs.Lent.{line-more}
