@@ -7,7 +7,7 @@ use lib.Dec.{ltb, leb}
 use lib.ListN.{length, getD}
 use Rattle.picture.specs.Build.{build}
 use Rattle.picture.specs.Planes.{Line}
-use Rattle.binary32.specs.Round.{steps}
+use Rattle.binary32.specs.Round.{signedSteps}
 use Rattle.binary32.specs.declared.Offset.{Offset}
 use Rattle.shift.specs.Shift.{moved, shifted}
 
@@ -17,7 +17,7 @@ lineOf bytes i = getD bytes i 0
 
 -- no move
 abbrev pub still : Offset
-still = steps false 0
+still = signedSteps false 0
 
 -- all bytes moved by d, as one line
 unfoldable pub slid : Offset → List ℕ → List ℕ
