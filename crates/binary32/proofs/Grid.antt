@@ -52,8 +52,8 @@ grid-of x m l v =
 
 -- ---- what `numerator_of` finds of a weight in range
 -- 65536 x, and its whole part
-abbrev pub over : Float → Float
-over x = mul binary32 x (fin false 1 (pos 16))
+abbrev pub timesGrid : Float → Float
+timesGrid x = mul binary32 x (fin false 1 (pos 16))
 
 abbrev pub part : Float → ℕ
 part x = num x * 65536 / den x
@@ -63,11 +63,11 @@ unfolding onGrid gridWeight
 outside-off x h = rw h
 
 module _ (x : Float) (F : T (fits binary32 x)) (o : outsideUnit x ≡ false) where
-  is-over : Is (over x) (num x * 65536) (den x)
-  is-over = let u = in-unit x o in let d = den-pos x in scaled x 16 F (u .0) (omega arith)
+  is-times-grid : Is (timesGrid x) (num x * 65536) (den x)
+  is-times-grid = let u = in-unit x o in let d = den-pos x in scaled x 16 F (u .0) (omega arith)
 
-  pub part-cut : Cuttable (over x) × (toUnsigned 64 (over x) ≡ part x)
-  part-cut = let u = in-unit x o in let d = den-pos x in whole-part (over x) (num x * 65536) (den x) is-over d (omega arith)
+  pub part-cut : Cuttable (timesGrid x) × (toUnsigned 64 (timesGrid x) ≡ part x)
+  part-cut = let u = in-unit x o in let d = den-pos x in whole-part (timesGrid x) (num x * 65536) (den x) is-times-grid d (omega arith)
 
   pub part-le : part x ≤ 65536
   part-le = unit-part (num x) (den x) (den-pos x) (in-unit x o .1)
@@ -76,22 +76,22 @@ module _ (x : Float) (F : T (fits binary32 x)) (o : outsideUnit x ≡ false) whe
   is-part = value→is (ofInt binary32 (pos (part x))) (part x) 1 (whole-value (part x) (le-trans part-le (lit≤ tt)))
 
   -- the part is below 65536 x, so that there is a remainder: x is off the grid
-  pub part-below : lt (ofInt binary32 (pos (part x))) (over x) ≡ true → Off ≡ gridWeight x
+  pub part-below : lt (ofInt binary32 (pos (part x))) (timesGrid x) ≡ true → Off ≡ gridWeight x
   unfolding onGrid gridWeight
   part-below h =
-      let l = lt-true (ofInt binary32 (pos (part x))) (over x) (part x) 1 (num x * 65536) (den x) (zero-lt-suc 0) (den-pos x) is-part is-over h in
+      let l = lt-true (ofInt binary32 (pos (part x))) (timesGrid x) (part x) 1 (num x * 65536) (den x) (zero-lt-suc 0) (den-pos x) is-part is-times-grid h in
       let e = div-add-mod' (num x * 65536) (den x) in
       rw (o, ne-eqb (num x * 65536 % den x) 0 (λ z. let n : ⊥ = omega arith in n))
 
   -- else x is on it
-  on : lt (ofInt binary32 (pos (part x))) (over x) ≡ false → onGrid x ≡ true
+  on : lt (ofInt binary32 (pos (part x))) (timesGrid x) ≡ false → onGrid x ≡ true
   unfolding onGrid
   on h =
-      let l = lt-false (ofInt binary32 (pos (part x))) (over x) (part x) 1 (num x * 65536) (den x) (zero-lt-suc 0) (den-pos x) is-part is-over h in
+      let l = lt-false (ofInt binary32 (pos (part x))) (timesGrid x) (part x) 1 (num x * 65536) (den x) (zero-lt-suc 0) (den-pos x) is-part is-times-grid h in
       let e = div-add-mod' (num x * 65536) (den x) in
       rw (o, eq-eqb (num x * 65536 % den x) 0 (omega arith))
 
-  pub part-all : lt (ofInt binary32 (pos (part x))) (over x) ≡ false → Numerator (part x) ≡ gridWeight x
+  pub part-all : lt (ofInt binary32 (pos (part x))) (timesGrid x) ≡ false → Numerator (part x) ≡ gridWeight x
   unfolding gridWeight
   part-all h = rw (on h, numerator-is x (on h))
 

@@ -3,6 +3,7 @@ use mathlib.Core.Path.{_≡_, sym, ap, _∙_, subst}
 use mathlib.Core.Bool.{not}
 use Prim.Native.Nat.{ℕ, suc, _+_, _*_, _/_, _%_, _≤_, _<_, compare, Ordering, Ordering·lt, Ordering·eq, Ordering·gt}
 use native.Mathlib.Nat.{zero-lt-suc, le-of-eq, le-antisymm, mul-comm, mul-left-comm, mul-mul-mul-comm, add-mul, mul-pos, mod-lt, div-add-mod', div-div-eq-div-mul, div-eq-of-lt, div-eq-of-lt-le, add-div-right, add-mod-right, add-mul-div-right}
+use native.Mathlib.Numerals.{add-one}
 use native.Mathlib.Omega.{arith}
 use lib.Arith.{lt-of-le-ne}
 use lib.Dec.{T, isLe, isEq, leb→le, nleb→lt, eqb, eqb→eq, eqb-refl}
@@ -74,10 +75,7 @@ mean w r c Ordering·gt h l = omega (arith, high r c (omega arith) l)
 next : (a c : ℕ) → 0 < c → closest (a + c) c ≡ nearest (suc (a / c)) (compare (a % c * 2) c)
 next a c C =
     ap (λ (r : ℕ). nearest ((a + c) / c) (compare (r * 2) c)) (add-mod-right a c)
-    ∙ ap (λ (w : ℕ). nearest w (compare (a % c * 2) c)) (add-div-right a C ∙ plus (a / c))
-  where
-    plus : (n : ℕ) → n + 1 ≡ suc n
-    plus n = omega arith
+    ∙ ap (λ (w : ℕ). nearest w (compare (a % c * 2) c)) (add-div-right a C ∙ add-one (a / c))
 
 pub half-up-mean : (a c : ℕ) → 0 < c → (closest a c + closest (a + c) c) / 2 ≡ halfUp a c
 half-up-mean a c C =

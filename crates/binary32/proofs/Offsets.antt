@@ -12,7 +12,7 @@ use lib.Ieee.{Float, nan, inf, fin, binary32, up, down, fits, neg, mul, lt, ne, 
 use lib.Ieee.Fits.{down-pos}
 use lib.Ieee.Positive.{num, den, den-pos}
 use Rattle.binary32.specs.Ranges.{zero32, finite, nonneg}
-use Rattle.binary32.specs.Round.{halfUp, roundHalfUp, steps, wholeOffset, heldSize, roundOffset}
+use Rattle.binary32.specs.Round.{halfUp, roundHalfUp, signedSteps, wholeOffset, heldSize, roundOffset}
 use Rattle.binary32.specs.declared.Offset.{Offset}
 use Rattle.binary32.proofs.Halves.{half-up-le, half-up-ge, half-up-cut}
 use Rattle.binary32.proofs.Values.{on-nonneg, unsigned, lt-is}
@@ -75,7 +75,7 @@ beyond bound (fin s m e) b h l n =
     sym (min-eq-left (le-trans b g))
 
 -- ---- the two signs
-pub forward : (bound : ℕ) (x : Float) → lt x zero32 ≡ false → steps false (heldSize bound x) ≡ roundOffset bound x
+pub forward : (bound : ℕ) (x : Float) → lt x zero32 ≡ false → signedSteps false (heldSize bound x) ≡ roundOffset bound x
 unfolding lt roundOffset heldSize roundHalfUp
 forward bound nan h = refl
 forward bound (inf true) h = absurd (true≢false h)
@@ -86,7 +86,7 @@ forward bound (fin true m e) h =
     let n : halfUp (m * up e) (down e) ≡ 0 = le-zero (half-up-le (m * up e) (down e) 0 (down-pos e) (omega arith)) in
     rw (n, min-zero)
 
-pub backward : (bound : ℕ) (x : Float) → lt x zero32 ≡ true → (lt (neg x) zero32 ≡ false) × (steps true (heldSize bound (neg x)) ≡ roundOffset bound x)
+pub backward : (bound : ℕ) (x : Float) → lt x zero32 ≡ true → (lt (neg x) zero32 ≡ false) × (signedSteps true (heldSize bound (neg x)) ≡ roundOffset bound x)
 unfolding lt neg roundOffset heldSize roundHalfUp
 backward bound nan h = absurd (false≢true h)
 backward bound (inf true) h = (refl, refl)

@@ -17,7 +17,7 @@ use lib.Ieee.Scale.{round-same}
 use Rattle.binary32.specs.Ranges.{zero32, outsideUnit, nonneg}
 use Rattle.binary32.specs.Round.{toByte}
 use Rattle.binary32.specs.Grid.{onGrid, numerator}
-use Rattle.binary32.specs.Taps.{tap, taps, sumTo, Bytes, Weights, GridWeights}
+use Rattle.binary32.specs.Taps.{tap, taps, sumTo, ByteLine, Weights, GridWeights}
 use Rattle.binary32.proofs.Halves.{half-up-le}
 use Rattle.binary32.proofs.Values.{plain, plain-nonneg, plain-of-value, Cross, cross→le, le→cross, add-is, add-at, round-zero, Alike, mul-is, add-alike, value→is, whole-value}
 use Rattle.binary32.proofs.Ranges.{in-unit}
@@ -76,7 +76,7 @@ tap-le acc p k n A h w N =
 fewer : {P : ℕ → Type 0} (n : ℕ) → ((j : ℕ) → j < suc n → P j) → (j : ℕ) → j < n → P j
 fewer n f j h = f j (le-trans h (le-suc n))
 
-pub taps-bounded : (p : ℕ → ℕ) (k : ℕ → Float) (n : ℕ) → Bytes p n → Weights k n → 255 * n ≤ 2 ^ 24 → AtMost (taps p k n) (255 * n)
+pub taps-bounded : (p : ℕ → ℕ) (k : ℕ → Float) (n : ℕ) → ByteLine p n → Weights k n → 255 * n ≤ 2 ^ 24 → AtMost (taps p k n) (255 * n)
 unfolding taps
 taps-bounded p k zero b w N = (tt, le-refl 0)
 taps-bounded p k (suc n) b w N =
@@ -87,7 +87,7 @@ taps-bounded p k (suc n) b w N =
     next n = omega arith
 
 -- so `round_channel` takes it
-pub taps-nonneg : (p : ℕ → ℕ) (k : ℕ → Float) (n : ℕ) → Bytes p n → Weights k n → 255 * n ≤ 2 ^ 24 → T (nonneg (taps p k n))
+pub taps-nonneg : (p : ℕ → ℕ) (k : ℕ → Float) (n : ℕ) → ByteLine p n → Weights k n → 255 * n ≤ 2 ^ 24 → T (nonneg (taps p k n))
 taps-nonneg p k n b w N = plain-nonneg (taps p k n) (taps-bounded p k n b w N .0)
 
 -- ---- it grows with the samples
@@ -116,24 +116,24 @@ abbrev pub Under : (ℕ → ℕ) → (ℕ → ℕ) → ℕ → Type 0
 Under p q n = (j : ℕ) → j < n → p j ≤ q j
 
 module _ (p q : ℕ → ℕ) (k : ℕ → Float) where
-  lower : (n : ℕ) → Bytes q n → Under p q n → Bytes p n
+  lower : (n : ℕ) → ByteLine q n → Under p q n → ByteLine p n
   lower n b l j h = le-trans (l j h) (b j h)
 
-  taps-cross : (n : ℕ) → Bytes q n → Weights k n → Under p q n → 255 * n ≤ 2 ^ 24 → Cross (taps p k n) (taps q k n)
+  taps-cross : (n : ℕ) → ByteLine q n → Weights k n → Under p q n → 255 * n ≤ 2 ^ 24 → Cross (taps p k n) (taps q k n)
   unfolding taps
   taps-cross zero b w l N = le-refl 0
   taps-cross (suc n) b w l N =
       let m = le-refl (suc n) in
       let M : 255 * n ≤ 2 ^ 24 = omega arith in
-      let B : Bytes q n = fewer n b in
+      let B : ByteLine q n = fewer n b in
       let W : Weights k n = fewer n w in
       let L : Under p q n = fewer n l in
       tap-mono (taps p k n) (taps q k n) (p n) (q n) (k n) (255 * n) (taps-bounded p k n (lower n B L) W M) (taps-bounded q k n B W M) (taps-cross n B W L M) (l n m) (b n m) (w n m) (omega arith)
 
-  pub taps-mono : (n : ℕ) → Bytes q n → Weights k n → Under p q n → 255 * n ≤ 2 ^ 24 → T (le (taps p k n) (taps q k n))
+  pub taps-mono : (n : ℕ) → ByteLine q n → Weights k n → Under p q n → 255 * n ≤ 2 ^ 24 → T (le (taps p k n) (taps q k n))
   taps-mono n b w l N = cross→le (taps p k n) (taps q k n) (taps-bounded p k n (lower n b l) w N .0) (taps-bounded q k n b w N .0) (taps-cross n b w l N)
 
-  pub channel-mono : (n : ℕ) → Bytes q n → Weights k n → Under p q n → 255 * n ≤ 2 ^ 24 → toByte (taps p k n) ≤ toByte (taps q k n)
+  pub channel-mono : (n : ℕ) → ByteLine q n → Weights k n → Under p q n → 255 * n ≤ 2 ^ 24 → toByte (taps p k n) ≤ toByte (taps q k n)
   channel-mono n b w l N = byte-mono (taps p k n) (taps q k n) (taps-cross n b w l N)
 
 -- ---- on the grid it is exact
@@ -151,12 +151,12 @@ module _ (p : ℕ → ℕ) (k : ℕ → Float) where
   abbrev weighed : ℕ → ℕ
   weighed = sumTo (λ j. p j * numerator (k j))
 
-  weighed-le : (n : ℕ) → Bytes p n → weighed n ≤ 255 * sumTo (λ j. numerator (k j)) n
+  weighed-le : (n : ℕ) → ByteLine p n → weighed n ≤ 255 * sumTo (λ j. numerator (k j)) n
   unfolding sumTo
   weighed-le zero b = le-refl 0
   weighed-le (suc n) b = omega (arith, weighed-le n (fewer n b), mul-le-mul-right (numerator (k n)) (b n (le-refl (suc n))))
 
-  pub taps-exact : (n : ℕ) → Bytes p n → GridWeights k n → sumTo (λ j. numerator (k j)) n ≤ 65536 → HasValue (taps p k n) false (sumTo (λ j. p j * numerator (k j)) n) 65536
+  pub taps-exact : (n : ℕ) → ByteLine p n → GridWeights k n → sumTo (λ j. numerator (k j)) n ≤ 65536 → HasValue (taps p k n) false (sumTo (λ j. p j * numerator (k j)) n) 65536
   unfolding taps sumTo
   taps-exact zero b g h = (refl, refl)
   taps-exact (suc n) b g h =
@@ -164,7 +164,7 @@ module _ (p : ℕ → ℕ) (k : ℕ → Float) where
       let d = weighed-le (suc n) b in
       tap-exact (taps p k n) (weighed n) (p n) (k n) (taps-exact n (fewer n b) (fewer n g) (omega arith)) (b n l) (g n l) (omega arith)
 
-  pub channel-exact : (n : ℕ) → Bytes p n → GridWeights k n → sumTo (λ j. numerator (k j)) n ≤ 65536 → toByte (taps p k n) ≡ (2 * sumTo (λ j. p j * numerator (k j)) n + 65536) / 131072
+  pub channel-exact : (n : ℕ) → ByteLine p n → GridWeights k n → sumTo (λ j. numerator (k j)) n ≤ 65536 → toByte (taps p k n) ≡ (2 * sumTo (λ j. p j * numerator (k j)) n + 65536) / 131072
   unfolding toByte
   channel-exact n b g h =
       let S = weighed n in

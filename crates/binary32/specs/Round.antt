@@ -23,9 +23,9 @@ abbrev pub top32 : Float
 top32 = fin false 255 (pos 0)
 
 -- n steps forward, or backward where the sign is minus
-abbrev pub steps : Bool → ℕ → Offset
-steps false n = record { plus = n; minus = 0 }
-steps true n = record { plus = 0; minus = n }
+abbrev pub signedSteps : Bool → ℕ → Offset
+signedSteps false n = record { plus = n; minus = 0 }
+signedSteps true n = record { plus = 0; minus = n }
 
 -- whether x has a minus sign; a NaN counts as having none
 abbrev pub minusSign : Float → Bool
@@ -35,7 +35,7 @@ minusSign (fin s m e) = s
 
 -- a finite offset to the nearest whole number, halves away from zero: its size is rounded, and keeps its sign
 unfoldable pub wholeOffset : Float → Offset
-wholeOffset x = steps (minusSign x) (roundHalfUp x)
+wholeOffset x = signedSteps (minusSign x) (roundHalfUp x)
 
 -- the size of x rounded and held to a bound; an infinite one is the bound, and a NaN is 0
 unfoldable pub heldSize : ℕ → Float → ℕ
@@ -45,4 +45,4 @@ heldSize bound (fin s m e) = min bound (roundHalfUp (fin s m e))
 
 -- any offset, rounded so and held to the bound either way: of a finite x it is `wholeOffset` held (`round-offset-held`)
 unfoldable pub roundOffset : ℕ → Float → Offset
-roundOffset bound x = steps (minusSign x) (heldSize bound x)
+roundOffset bound x = signedSteps (minusSign x) (heldSize bound x)

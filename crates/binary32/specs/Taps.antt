@@ -22,8 +22,8 @@ sumTo f zero = 0
 sumTo f (suc n) = sumTo f n + f n
 
 -- the first n samples are bytes
-abbrev pub Bytes : (ℕ → ℕ) → ℕ → Type 0
-Bytes p n = (j : ℕ) → j < n → p j ≤ 255
+abbrev pub ByteLine : (ℕ → ℕ) → ℕ → Type 0
+ByteLine p n = (j : ℕ) → j < n → p j ≤ 255
 
 -- the first n weights are in range, and on the grid
 abbrev pub Weights : (ℕ → Float) → ℕ → Type 0

@@ -1,5 +1,5 @@
 -- Laws of the shadow's arithmetic and of its pixels.
-pub mod Within
+pub mod Between
 pub mod Units
 pub mod Whole
 pub mod Table

@@ -16,7 +16,7 @@ use Rattle.binary32.proofs.Ranges.{in-unit}
 use Rattle.binary32.proofs.Rounded.{AtMost, rounded}
 use Rattle.binary32.proofs.Values.{plain, plain-nonneg, plain-of-value, Alike, mul-is, whole-value}
 use Rattle.composite.specs.Channels.{norm, atMostOne}
-use Rattle.composite.proofs.Within.{Grid, Within, held}
+use Rattle.composite.proofs.Between.{Grid, Between, held}
 
 -- ---- a byte over 255
 norm-is : (p : ℕ) → p ≤ 255 → norm p ≡ round binary32 false p 255
@@ -44,7 +44,7 @@ lo p = p * 4194304 / 255
 abbrev pub hi : ℕ → ℕ
 hi p = (p * 4194304 + 254) / 255
 
-pub norm-in : (p : ℕ) → p ≤ 255 → Within 4194304 (norm p) (lo p) (hi p)
+pub norm-in : (p : ℕ) → p ≤ 255 → Between 4194304 (norm p) (lo p) (hi p)
 norm-in p h = rw (norm-is p h) (held fine p 255 (lo p) (hi p) (zero-lt-suc 254) (omega arith) (record { le = omega arith }) (record { le = omega arith }))
 
 -- ---- products: not below 0, and bounded; a zero may have a minus sign

@@ -8,14 +8,14 @@ use lib.Ieee.{Float, binary32, add, sub, mul}
 use Rattle.binary32.specs.Ranges.{one32}
 use Rattle.binary32.specs.Round.{top32, toByte}
 use Rattle.composite.specs.Channels.{norm, normByte, over}
-use Rattle.composite.proofs.Within.{Grid, Within, minus, times, plus, settled}
+use Rattle.composite.proofs.Between.{Grid, Between, sub-between, mul-between, add-between, settled}
 use Rattle.composite.proofs.Units.{fine, lo, hi, norm-in}
 
 -- the grid of 2 ^ -14, for values up to 1024
 coarse : Grid 16384
 coarse = record { step = zero-lt-suc 16383; digits = 135; whole = refl; room = lit≤ tt }
 
-top-in : Within 1 top32 255 255
+top-in : Between 1 top32 255 255
 top-in = record { flat = tt; above = record { le = omega arith }; below = record { le = omega arith } }
 
 -- a product of numbers that are larger by at most 254
@@ -46,13 +46,13 @@ module _ (s d a : ℕ) (S : s ≤ 255) (D : d ≤ 255) (A : a ≤ 255) where
   few : 65025 * high-product ≤ d * (255 - a) * 17592186044416 + 543330204676
   few = omega (arith, near (255 * hi d) (255 * (4194304 - lo a)) (d * 4194304) ((255 - a) * 4194304) (omega arith) (omega arith) (omega arith) (omega arith), mul-mul-mul-comm d 4194304 (255 - a) 4194304, mul-mul-mul-comm 255 (hi d) 255 (4194304 - lo a))
 
-  mixed-in : Within 16384 (mixed s d a) low high
+  mixed-in : Between 16384 (mixed s d a) low high
   mixed-in =
       let few′ = few in
       let most : d * (255 - a) ≤ 65025 = mul-le-mul {n₁ = d} {m₁ = 255 - a} {n₂ = 255} {m₂ = 255} D (omega arith) in
-      times
-      (plus (norm-in s S)
-      (times (norm-in d D) (minus (norm-in a A) fine (omega arith) (lit≤ tt)) fine (low-product / 4194304) (high-product / 4194304 + 1) (lit≤ tt) (omega arith) (record { le = omega arith }) (record { le = omega arith }))
+      mul-between
+      (add-between (norm-in s S)
+      (mul-between (norm-in d D) (sub-between (norm-in a A) fine (omega arith) (lit≤ tt)) fine (low-product / 4194304) (high-product / 4194304 + 1) (lit≤ tt) (omega arith) (record { le = omega arith }) (record { le = omega arith }))
       fine (omega arith))
       top-in coarse low high (lit≤ tt) (omega arith) (record { le = omega arith }) (record { le = omega arith })
 

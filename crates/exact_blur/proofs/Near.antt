@@ -19,8 +19,8 @@ use Rattle.binary32.proofs.Taps.{channel-exact}
 use Rattle.passes.specs.Passes.{convolve}
 use Rattle.passes.proofs.Relates.{Moves, blur-moves}
 use Rattle.gaussian_blur.specs.Blurred.{blurredPlane, blurred}
-use Rattle.exact_blur.specs.Exact.{exactConvolve, exactBlur, over}
-use Rattle.exact_blur.specs.Demand.{steps, Within, GridKernel, OfTheBlur}
+use Rattle.exact_blur.specs.Exact.{exactConvolve, exactBlur, scaleOf}
+use Rattle.exact_blur.specs.Demand.{stepsOf, Within, GridKernel, OfTheBlur}
 use Rattle.exact_blur.proofs.Stages.{Stage, Near, over-by, done-scale, done-halves}
 use Rattle.exact_blur.proofs.Passes.{settled, taps-near, halve-moves, double-moves}
 
@@ -32,9 +32,9 @@ itself : (a : ℕ) → a ≤ 255 → Near start a a
 itself a h = record { byte = omega arith; low = omega arith; high = omega arith }
 
 -- 4n + 2 half steps are 2n + 1 steps
-within : {t : Stage} {a b : ℕ} (n : ℕ) → t .scale ≡ over n → t .halves ≡ 0 + (4 * n + 2) → Near t a b → Within (steps n) n a b
+within : {t : Stage} {a b : ℕ} (n : ℕ) → t .scale ≡ scaleOf n → t .halves ≡ 0 + (4 * n + 2) → Near t a b → Within (stepsOf n) n a b
 within {t} {a} {b} n es eh c =
-    let steps : (4 * n + 2) * over n ≡ 2 * ((2 * n + 1) * over n) = ap (λ (k : ℕ). k * over n) (twice n) ∙ mul-assoc 2 (2 * n + 1) (over n) in
+    let in-halves : (4 * n + 2) * scaleOf n ≡ 2 * ((2 * n + 1) * scaleOf n) = ap (λ (k : ℕ). k * scaleOf n) (twice n) ∙ mul-assoc 2 (2 * n + 1) (scaleOf n) in
     let low = rw (es, eh) at (c .low) in
     let high = rw (es, eh) at (c .high) in
     record { low = omega arith; high = omega arith }
@@ -67,9 +67,9 @@ module _ (mode : EdgeMode) (weights : List Float) (kernel : GridKernel weights) 
       (taps-near mode t s p q r (λ j. x + j) (length (numerators weights) / 2) (λ j. getD (numerators weights) j 0) (length (numerators weights)))
 
   -- one plane of bytes
-  plane-near : (n w h : ℕ) (p : Plane) → ((x y : ℕ) → p x y ≤ 255) → (x y : ℕ) → Within (steps n) n (blurredPlane mode weights n w h p x y) (exactBlur mode (numerators weights) n w h p x y)
+  plane-near : (n w h : ℕ) (p : Plane) → ((x y : ℕ) → p x y ≤ 255) → (x y : ℕ) → Within (stepsOf n) n (blurredPlane mode weights n w h p x y) (exactBlur mode (numerators weights) n w h p x y)
   plane-near n w h p bytes x y =
-      within n (done-scale n start ∙ mul-one (over n)) (done-halves n start)
+      within n (done-scale n start ∙ mul-one (scaleOf n)) (done-halves n start)
       (blur-moves Near (over-by 8) (over-by 4) (over-by 65536) _ _ _ _ _ _ (halve-moves mode) (double-moves mode) convolve-moves n start w h p p
       (λ u v. itself (p u v) (bytes u v)) x y)
 
@@ -77,6 +77,6 @@ module _ (mode : EdgeMode) (weights : List Float) (kernel : GridKernel weights) 
 pub near-exact : OfTheBlur
 unfolding blurred chan
 near-exact mode weights kernel n w h p bytes c x y lc lx ly =
-    subst (λ (a : ℕ). Within (steps n) n a (exactBlur mode (numerators weights) n w h (chan p w c) x y))
+    subst (λ (a : ℕ). Within (stepsOf n) n a (exactBlur mode (numerators weights) n w h (chan p w c) x y))
     (sym (chan-painted w h (λ c. blurredPlane mode weights n w h (chan p w c)) c x y lc lx ly))
     (plane-near mode weights kernel n w h (chan p w c) (λ u v. bytes _) x y)

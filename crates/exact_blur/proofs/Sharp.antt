@@ -19,7 +19,7 @@ use Rattle.passes.specs.Passes.{convolve}
 use Rattle.passes.specs.Blur.{blur}
 use Rattle.gaussian_blur.specs.Blurred.{blurredPlane}
 use Rattle.exact_blur.specs.Exact.{exactConvolve, exactBlur}
-use Rattle.exact_blur.specs.Demand.{steps, Within}
+use Rattle.exact_blur.specs.Demand.{stepsOf, Within}
 
 -- weights 32768, 32767 and 2 over 65536, ..
 abbrev heavy : List Float
@@ -50,5 +50,5 @@ exact-middle Wrap = refl
 exact-middle Mirror = refl
 exact-middle None = refl
 
-pub one-too-heavy : (mode : EdgeMode) → Within (steps 0) 0 (blurredPlane mode heavy 0 3 3 column 1 1) (exactBlur mode (numerators heavy) 0 3 3 column 1 1) → ⊥
+pub one-too-heavy : (mode : EdgeMode) → Within (stepsOf 0) 0 (blurredPlane mode heavy 0 3 3 column 1 1) (exactBlur mode (numerators heavy) 0 3 3 column 1 1) → ⊥
 one-too-heavy mode h = omega (arith, h .low, blurred-middle mode, exact-middle mode)

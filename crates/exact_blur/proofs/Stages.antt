@@ -5,7 +5,7 @@ use native.Mathlib.Omega.{arith}
 use native.Mathlib.Nat.{mul-assoc, mul-left-comm}
 use lib.Pow.{pow-add}
 use Rattle.passes.proofs.Relates.{after}
-use Rattle.exact_blur.specs.Exact.{over}
+use Rattle.exact_blur.specs.Exact.{scaleOf}
 use Rattle.exact_blur.proofs.Sums.{Close}
 
 pub record Stage : Type 0 where
@@ -24,15 +24,15 @@ over-by k t = record { scale = k * t .scale; halves = t .halves + 1 }
 abbrev pub done : ℕ → Stage → Stage
 done n t = after Near (over-by 8) (over-by 4) (over-by 65536) n t
 
-more : (n m : ℕ) → 4 * (4 * (over n * (8 * (8 * m)))) ≡ over (suc n) * m
+more : (n m : ℕ) → 4 * (4 * (scaleOf n * (8 * (8 * m)))) ≡ scaleOf (suc n) * m
 more n m =
-    let e : over (suc n) ≡ over n * 1024 = ap (λ (k : ℕ). 2 ^ k) (exponent n) ∙ pow-add 2 (10 * n + 32) 10 in
-    rw (e, mul-assoc (over n) 1024 m, mul-left-comm (over n) 8 (8 * m), mul-left-comm (over n) 8 m, mul-left-comm (over n) 1024 m) (omega arith)
+    let e : scaleOf (suc n) ≡ scaleOf n * 1024 = ap (λ (k : ℕ). 2 ^ k) (exponent n) ∙ pow-add 2 (10 * n + 32) 10 in
+    rw (e, mul-assoc (scaleOf n) 1024 m, mul-left-comm (scaleOf n) 8 (8 * m), mul-left-comm (scaleOf n) 8 m, mul-left-comm (scaleOf n) 1024 m) (omega arith)
   where
     exponent : (n : ℕ) → 10 * suc n + 32 ≡ 10 * n + 32 + 10
     exponent n = omega arith
 
-pub done-scale : (n : ℕ) (t : Stage) → done n t .scale ≡ over n * t .scale
+pub done-scale : (n : ℕ) (t : Stage) → done n t .scale ≡ scaleOf n * t .scale
 unfolding after
 done-scale zero t = omega arith
 done-scale (suc n) t = ap (λ (k : ℕ). 4 * (4 * k)) (done-scale n (over-by 8 (over-by 8 t))) ∙ more n (t .scale)

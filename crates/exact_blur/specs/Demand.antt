@@ -20,16 +20,16 @@ use Rattle.gaussian_blur.specs.Blurred.{blurred}
 use Rattle.gaussian_blur.specs.Outcome.{aboveZero}
 use Rattle.gaussian_blur.proofs.blur.Reads as blur
 use Rattle.gaussian_blur.proofs.blur.Kinds as kinds
-use Rattle.exact_blur.specs.Exact.{exactBlur, over}
+use Rattle.exact_blur.specs.Exact.{exactBlur, scaleOf}
 
 -- how many steps the blur with n decimations may be away
-abbrev pub steps : ℕ → ℕ
-steps n = 2 * n + 1
+abbrev pub stepsOf : ℕ → ℕ
+stepsOf n = 2 * n + 1
 
 -- a channel is within k steps of an exact number: channel times 2^(10n+32) differs from it by at most k times 2^(10n+32)
 pub record Within (k n channel exact : ℕ) : Type 0 where
-  pub low : channel * over n ≤ exact + k * over n
-  pub high : exact ≤ channel * over n + k * over n
+  pub low : channel * scaleOf n ≤ exact + k * scaleOf n
+  pub high : exact ≤ channel * scaleOf n + k * scaleOf n
 
 -- weights on the grid, with numerators that sum to at most 65536
 pub record GridKernel (weights : List Float) : Type 0 where
@@ -39,7 +39,7 @@ pub record GridKernel (weights : List Float) : Type 0 where
 -- every channel c of every pixel x, y of a picture is near the exact blur of p
 abbrev pub NearExact : EdgeMode → List Float → ℕ → ℕ → ℕ → List ℕ → List ℕ → Type 0
 NearExact mode weights n w h p picture =
-    (c x y : ℕ) → c < 4 → x < w → y < h → Within (steps n) n (chan picture w c x y) (exactBlur mode (numerators weights) n w h (chan p w c) x y)
+    (c x y : ℕ) → c < 4 → x < w → y < h → Within (stepsOf n) n (chan picture w c x y) (exactBlur mode (numerators weights) n w h (chan p w c) x y)
 
 -- a list of bytes
 abbrev pub Bytes : List ℕ → Type 0

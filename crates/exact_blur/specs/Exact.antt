@@ -34,5 +34,5 @@ abbrev pub exactBlur : EdgeMode → List ℕ → ℕ → ℕ → ℕ → Plane �
 exactBlur mode numerators n w h p = blur (exactHalve mode) (exactDouble mode) (exactConvolve mode numerators) n w h p
 
 -- what the exact blur with n decimations is over
-abbrev pub over : ℕ → ℕ
-over n = 2 ^ (10 * n + 32)
+abbrev pub scaleOf : ℕ → ℕ
+scaleOf n = 2 ^ (10 * n + 32)

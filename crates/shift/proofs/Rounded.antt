@@ -10,7 +10,7 @@ use Rattle.picture.specs.Planes.{Line}
 use Rattle.picture.proofs.Tests.{neither}
 use Rattle.picture.proofs.Planes.{painted-same}
 use Rattle.binary32.specs.Ranges.{finite}
-use Rattle.binary32.specs.Round.{roundHalfUp, steps, minusSign, wholeOffset, roundOffset}
+use Rattle.binary32.specs.Round.{roundHalfUp, signedSteps, minusSign, wholeOffset, roundOffset}
 use Rattle.binary32.specs.declared.Offset.{Offset}
 use Rattle.binary32.proofs.Offsets.{held, round-offset-held}
 use Rattle.shift.specs.Shift.{moved, shifted, shiftedPicture}
@@ -23,7 +23,7 @@ pub both-finite : (dx dy : Float) → wrongOffsets dx dy ≡ false → (finite d
 unfolding wrongOffsets
 both-finite dx dy e = let n = neither _ _ e in (not-false _ (n .0), not-false _ (n .1))
 
-steps-one-way : (s : Bool) (n : ℕ) → OneWay (steps s n)
+steps-one-way : (s : Bool) (n : ℕ) → OneWay (signedSteps s n)
 steps-one-way false n = omega arith
 steps-one-way true n = omega arith
 

@@ -18,11 +18,11 @@ half = ofBits binary32 0x3F00_0000
 abbrev one : Float
 one = ofBits binary32 0x3F80_0000
 
-abbrev over : Float
-over = ofBits binary32 0x3FA0_0000
+abbrev five-quarters : Float
+five-quarters = ofBits binary32 0x3FA0_0000
 
-abbrev under : Float
-under = ofBits binary32 0xBE80_0000
+abbrev minus-quarter : Float
+minus-quarter = ofBits binary32 0xBE80_0000
 
 abbrev minus-zero : Float
 minus-zero = ofBits binary32 0x8000_0000
@@ -34,7 +34,7 @@ pub reports :
     ∷ reported [] 13
     ∷ reported (nan ∷ []) 13
     ∷ reported (nan ∷ one ∷ []) 0
-    ∷ reported (over ∷ under ∷ []) 0
+    ∷ reported (five-quarters ∷ minus-quarter ∷ []) 0
     ∷ reported (quarter ∷ half ∷ []) 0
     ∷ [])
     ≡ (answered 0 65536 ∷ answered 0 655360 ∷ answered 0 0 ∷ answered 4 0 ∷ answered 6 0 ∷ answered 11 0 ∷ answered 11 0 ∷ answered 11 0 ∷ [])

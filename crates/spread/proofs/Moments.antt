@@ -14,7 +14,7 @@ use borrow.Author.Tests.{eqb-true, ltb-false, not-false}
 use Rattle.picture.specs.Refusal.{maxTaps, zeroOrAbove, wrongTaps}
 use Rattle.picture.proofs.Tests.{neither}
 use Rattle.binary32.specs.Grid.{numerator, allOnGrid, numerators, sum, offGrid}
-use Rattle.spread.specs.Spread.{distance, moment, momentOf, GridKernel}
+use Rattle.spread.specs.Spread.{distance, moment, momentOf, WholeKernel}
 
 -- tap j, and those after it
 pub moment-step : (c j : ℕ) (ws : List Float) → j < length ws →
@@ -40,7 +40,7 @@ module _ (reach : ℕ) where
       )
 
 -- what checks 4 and 11 let through
-pub kernel : (ws : List Float) → wrongTaps (length ws) ≡ false → offGrid ws ≡ false → GridKernel ws
+pub kernel : (ws : List Float) → wrongTaps (length ws) ≡ false → offGrid ws ≡ false → WholeKernel ws
 unfolding wrongTaps zeroOrAbove
 kernel ws t g = record { taps = ltb-false maxTaps _ (neither (eqb (length ws) 0) _ t .1); grid = g }
 
@@ -53,6 +53,6 @@ pub taps-fit : maxTaps ≤ 256
 unfolding maxTaps
 taps-fit = omega arith
 
-pub moment-fits : (ws : List Float) → GridKernel ws → momentOf ws ≤ 4294967296
+pub moment-fits : (ws : List Float) → WholeKernel ws → momentOf ws ≤ 4294967296
 unfolding momentOf
 moment-fits ws k = rw (sum-is ws (k .grid)) at (moment-high 256 (length ws / 2) 0 ws (omega (arith, taps-fit, k .taps)) (omega (arith, taps-fit, k .taps)))

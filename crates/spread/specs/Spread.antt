@@ -53,7 +53,7 @@ report (Found s) = answered 0 (s .units)
 unfoldable pub reported : List Float → ℕ → Answer ℕ
 reported ws n = settled (firstOf (spreadChecks ws n)) 0 (spreadOf ws n)
 
--- a kernel that checks 4 and 11 let through
-pub record GridKernel (ws : List Float) : Type 0 where
+-- a kernel that checks 4 and 11 let through: few taps, on the grid, with numerators that sum to 65536
+pub record WholeKernel (ws : List Float) : Type 0 where
   pub taps : length ws ≤ maxTaps
   pub grid : offGrid ws ≡ false

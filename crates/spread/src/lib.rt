@@ -3,7 +3,7 @@ ghost use mathlib.Core.Path.{_≡_};
 ghost use Prim.Native.Nat.{_*_, _^_, _≤_};
 ghost use Rattle.picture.specs.Refusal.{maxDecimations};
 ghost use Rattle.binary32.specs.Grid.{numerator};
-ghost use Rattle.spread.specs.Spread.{numberOf, distance, GridKernel, momentOf, decimationTerm, spreadOf, report, reported};
+ghost use Rattle.spread.specs.Spread.{numberOf, distance, WholeKernel, momentOf, decimationTerm, spreadOf, report, reported};
 use binary32::GridWeight;
 
 // How many units a square full-size pixel has.
@@ -63,7 +63,7 @@ fn distance(c: usize, j: usize) -> u64
 
 // The sum of numerator times squared distance from the middle tap.
 fn moment(weights: &[f32]) -> u64
-    requires { ⌜ GridKernel (now weights) ⌝ }
+    requires { ⌜ WholeKernel (now weights) ⌝ }
     ensures { λ r. ⌜ r ≡ momentOf (now (weights .entry)) ⌝ }
 {
     let middle = weights.len() / 2;
@@ -94,7 +94,7 @@ fn decimation_term(n: u32) -> u64
 
 // The spread of a kernel with n decimations around it.
 fn spread_of(weights: &[f32], n: u32) -> Spread
-    requires { ⌜ GridKernel (now weights) × (n ≤ maxDecimations) ⌝ }
+    requires { ⌜ WholeKernel (now weights) × (n ≤ maxDecimations) ⌝ }
     ensures { λ r. ⌜ r .units ≡ spreadOf (now (weights .entry)) n ⌝ }
 {
     Spread {

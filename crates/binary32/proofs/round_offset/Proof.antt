@@ -2,7 +2,7 @@
 use mathlib.Core.Path.{ap, _∙_}
 use mathlib.Core.Bool.{true, false}
 use lib.Ieee.{ofBits}
-use Rattle.binary32.specs.Round.{steps}
+use Rattle.binary32.specs.Round.{signedSteps}
 use Rattle.binary32.proofs.Offsets.{forward, backward}
 use Rattle.binary32.proofs.round_offset.Statement.{statement}
 use Rattle.binary32.proofs.round_offset.Tie as tie
@@ -15,7 +15,7 @@ returns : tie.Need-returns
 unfolding ofBits
 returns c =
     let s = c .before .before in
-    ap (steps true) (c .held-size .ensures) ∙ backward (s .args .bound) (s .args .x) (c .before .if1 .taken) .1
+    ap (signedSteps true) (c .held-size .ensures) ∙ backward (s .args .bound) (s .args .x) (c .before .if1 .taken) .1
 
 held-size-requires-2 : tie.Need-held-size-requires-2
 unfolding ofBits
@@ -25,7 +25,7 @@ returns-2 : tie.Need-returns-2
 unfolding ofBits
 returns-2 c =
     let s = c .before .before in
-    ap (steps false) (c .held-size2 .ensures) ∙ forward (s .args .bound) (s .args .x) (c .before .if1 .left)
+    ap (signedSteps false) (c .held-size2 .ensures) ∙ forward (s .args .bound) (s .args .x) (c .before .if1 .left)
 
 pub round-offset-spec : {M : Type 1} → statement M
 round-offset-spec = tie.close (tie.spec held-size-requires returns held-size-requires-2 returns-2)

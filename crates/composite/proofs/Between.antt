@@ -53,12 +53,12 @@ on-grid g m G h =
     (ap (λ (n : ℕ). m * n) (sym (G .whole)) ∙ sym (mul-assoc m (2 ^ k) g))
 
 -- finite, with no minus sign, and lo / g ≤ x ≤ hi / g
-pub record Within (g : ℕ) (x : Float) (lo hi : ℕ) : Type 0 where
+pub record Between (g : ℕ) (x : Float) (lo hi : ℕ) : Type 0 where
   pub flat : T (plain x)
   pub above : Leq lo g (num x) (den x)
   pub below : Leq (num x) (den x) hi g
 
-pub held : {g : ℕ} (G : Grid g) (a c lo hi : ℕ) → 0 < c → hi < 2 ^ 24 → Leq lo g a c → Leq a c hi g → Within g (round binary32 false a c) lo hi
+pub held : {g : ℕ} (G : Grid g) (a c lo hi : ℕ) → 0 < c → hi < 2 ^ 24 → Leq lo g a c → Leq a c hi g → Between g (round binary32 false a c) lo hi
 held {g} G a c lo hi C H l h =
     let z = round binary32 false a c in
     let u = round binary32 false lo g in
@@ -90,22 +90,22 @@ mul-plain (fin false m e) (inf t) p q = absurd q
 mul-plain (fin false m e) (fin true n d) p q = absurd q
 mul-plain (fin false m e) (fin false n d) p q = refl
 
-module _ {x : Float} {g lx hx : ℕ} (v : Within g x lx hx) where
-  pub minus : (G : Grid g) → hx ≤ g → g < 2 ^ 24 → Within g (sub binary32 one32 x) (g - hx) (g - lx)
-  minus G H R =
+module _ {x : Float} {g lx hx : ℕ} (v : Between g x lx hx) where
+  pub sub-between : (G : Grid g) → hx ≤ g → g < 2 ^ 24 → Between g (sub binary32 one32 x) (g - hx) (g - lx)
+  sub-between G H R =
       let under : num x ≤ den x = le-of-mul-le-mul-right (le-trans (v .below .le) (le-trans (mul-le-mul-right (den x) H) (le-of-eq (mul-comm g (den x))))) (G .step) in
       rw (one-minus-is x (v .flat) under)
       (held G (den x - num x) (den x) (g - hx) (g - lx) (den-pos x) (lt-of-le-of-lt (sub-le g lx) R) (leq-minus (v .below)) (leq-minus (v .above)))
 
-  module _ {y : Float} {g' ly hy : ℕ} (w : Within g' y ly hy) where
-    pub times : {g'' : ℕ} (G : Grid g'') (l h : ℕ) → 0 < g * g' → h < 2 ^ 24 → Leq l g'' (lx * ly) (g * g') → Leq (hx * hy) (g * g') h g'' → Within g'' (mul binary32 x y) l h
-    times G l h P H a b =
+  module _ {y : Float} {g' ly hy : ℕ} (w : Between g' y ly hy) where
+    pub mul-between : {g'' : ℕ} (G : Grid g'') (l h : ℕ) → 0 < g * g' → h < 2 ^ 24 → Leq l g'' (lx * ly) (g * g') → Leq (hx * hy) (g * g') h g'' → Between g'' (mul binary32 x y) l h
+    mul-between G l h P H a b =
         rw (mul-plain x y (v .flat) (w .flat))
         (held G (num x * num y) (den x * den y) l h (mul-pos (den-pos x) (den-pos y)) H (leq-trans P a (leq-times (v .above) (w .above))) (leq-trans P (leq-times (v .below) (w .below)) b))
 
-  module _ {y : Float} {ly hy : ℕ} (w : Within g y ly hy) where
-    pub plus : (G : Grid g) → hx + hy < 2 ^ 24 → Within g (add binary32 x y) (lx + ly) (hx + hy)
-    plus G H =
+  module _ {y : Float} {ly hy : ℕ} (w : Between g y ly hy) where
+    pub add-between : (G : Grid g) → hx + hy < 2 ^ 24 → Between g (add binary32 x y) (lx + ly) (hx + hy)
+    add-between G H =
         let P = mul-pos (G .step) (G .step) in
         rw (add-is x y (plain-nonneg x (v .flat)) (plain-nonneg y (w .flat)) (inl (v .flat)))
         (held G (num x * den y + num y * den x) (den x * den y) (lx + ly) (hx + hy) (mul-pos (den-pos x) (den-pos y)) H
@@ -116,7 +116,7 @@ module _ {x : Float} {g lx hx : ℕ} (v : Within g x lx hx) where
         common a b = sym (ap (λ (n : ℕ). n * g) (sym (add-mul a b g)) ∙ mul-assoc (a + b) g g)
 
 -- the whole number that both ends round to
-pub settled : {g : ℕ} {x : Float} {lo hi : ℕ} (q : ℕ) → 0 < g → Within g x lo hi → q ≤ halfUp lo g → halfUp hi g ≤ q → roundHalfUp x ≡ q
+pub settled : {g : ℕ} {x : Float} {lo hi : ℕ} (q : ℕ) → 0 < g → Between g x lo hi → q ≤ halfUp lo g → halfUp hi g ≤ q → roundHalfUp x ≡ q
 unfolding roundHalfUp
 settled {g} {x} {lo} {hi} q G v a b =
     le-antisymm (le-trans (half-up-mono (num x) (den x) hi g (den-pos x) G (v .below .le)) b) (le-trans a (half-up-mono lo g (num x) (den x) G (den-pos x) (v .above .le)))
