@@ -3,3 +3,4 @@ pub mod Accepted
 pub mod Determined
 pub mod Alpha
 pub mod Alone
+pub mod Conditions
