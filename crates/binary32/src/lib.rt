@@ -33,7 +33,7 @@ pub fn is_finite(x: f32) -> bool
 }
 
 // NaN, below 0 or above 1.
-pub fn outside_unit(x: f32) -> bool
+fn outside_unit(x: f32) -> bool
     ensures { λ r. ⌜ r ≡ outsideUnit x ⌝ }
 {
     if x != x {

@@ -2,7 +2,6 @@
 use mathlib.Core.Path.{_≡_, refl, _∙_}
 use mathlib.Core.List.{List}
 use Prim.Native.Nat.{ℕ, zero, suc, _+_, _*_, _≤_, _<_}
-use native.Mathlib.Nat.{add-zero}
 use native.Mathlib.Omega.{arith}
 use lib.ListN.{length, set, length-set}
 use Rattle.picture.specs.declared.EdgeMode.{EdgeMode}
@@ -13,7 +12,8 @@ use Rattle.edges.specs.Edges.{place, sample}
 use Rattle.edges.specs.declared.At.the-variants.{Inside, Outside}
 use Rattle.passes.specs.Written.{lane}
 use Rattle.blend.specs.Blend.{mix}
-use Rattle.blend.specs.Pixels.{channelOf, pixelAt, pixel, samplePixel, mixPixels}
+use Rattle.pixels.specs.Pixels.{pixel, pixelFrom, withPixelFrom}
+use Rattle.blend.specs.Pixels.{channelOf, samplePixel, mixPixels}
 
 -- byte k of four blended pixels is that byte of each, blended
 module _ {p q r s m : Pixel} (a b c d : ℕ → ℕ) (ep : p ≡ pixel a) (eq : q ≡ pixel b) (er : r ≡ pixel c) (es : s ≡ pixel d) (em : m ≡ mixPixels p q r s) where
@@ -29,12 +29,12 @@ module _ {p q r s m : Pixel} (a b c d : ℕ → ℕ) (ep : p ≡ pixel a) (eq : 
 
 module _ (src : List ℕ) (start : ℕ) where
   -- byte k of pixel i of a row is its lane k
-  pub pixel-lanes : (i : ℕ) → pixelAt src (start + i * 4) ≡ pixel (λ k. lane src start 4 k i)
-  pixel-lanes i = simp add-zero
+  pub pixel-lanes : (i : ℕ) → pixelFrom src (start + i * 4) ≡ pixel (λ k. lane src start 4 k i)
+  pixel-lanes i = refl
 
   -- lane k of four blended pixels of a row is that lane of each, blended
   pub pixels-mix : {p q r s m : Pixel} (a b c d : ℕ) →
-      p ≡ pixelAt src (start + a * 4) → q ≡ pixelAt src (start + b * 4) → r ≡ pixelAt src (start + c * 4) → s ≡ pixelAt src (start + d * 4) → m ≡ mixPixels p q r s →
+      p ≡ pixelFrom src (start + a * 4) → q ≡ pixelFrom src (start + b * 4) → r ≡ pixelFrom src (start + c * 4) → s ≡ pixelFrom src (start + d * 4) → m ≡ mixPixels p q r s →
       (k : ℕ) → k < 4 → channelOf m k ≡ mix (lane src start 4 k a) (lane src start 4 k b) (lane src start 4 k c) (lane src start 4 k d)
   pixels-mix a b c d ep eq er es =
       bytes-mix _ _ _ _ (ep ∙ pixel-lanes a) (eq ∙ pixel-lanes b) (er ∙ pixel-lanes c) (es ∙ pixel-lanes d)
@@ -51,7 +51,7 @@ module _ (mode : EdgeMode) (len : ℕ) (src : List ℕ) (start : ℕ) where
 
 -- the pixel that a coordinate reads is the one at its place
 module _ (mode : EdgeMode) (len : ℕ) (src : List ℕ) (start c d : ℕ) where
-  pub sampled-inside : (i : ℕ) → place mode len c d ≡ Inside i → pixelAt src (start + i * 4) ≡ samplePixel mode len src start c d
+  pub sampled-inside : (i : ℕ) → place mode len c d ≡ Inside i → pixelFrom src (start + i * 4) ≡ samplePixel mode len src start c d
   unfolding sample
   sampled-inside i e = rw e (pixel-lanes src start i)
 
@@ -59,9 +59,10 @@ module _ (mode : EdgeMode) (len : ℕ) (src : List ℕ) (start c d : ℕ) where
   unfolding sample
   sampled-outside e = rw e
 
--- a pixel's channels stored one after another
+-- a pixel written: its channels, one after another
 pub pixel-run : (d : List ℕ) (o : ℕ) (p : Pixel) → o + 4 ≤ length d →
-    Run 0 d (set (set (set (set d o (p .r)) (o + 1) (p .g)) (o + 2) (p .b)) (o + 3) (p .a)) o 4 (channelOf p)
+    Run 0 d (withPixelFrom d o p) o 4 (channelOf p)
+unfolding withPixelFrom
 pixel-run d o p l =
     let one : Run 0 d (set d o (p .r)) o 1 (channelOf p) = span-more {b = 0} (span-none (omega arith)) (omega arith) (omega arith) (omega arith) refl in
     let two = span-more {b = 1} one (omega arith) (simp length-set (omega arith)) refl refl in

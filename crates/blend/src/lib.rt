@@ -7,8 +7,9 @@ ghost use Rattle.picture.specs.Spans.{Run};
 ghost use Rattle.edges.specs.Edges.{place, Reach};
 ghost use Rattle.passes.specs.Passes.{halve, double};
 ghost use Rattle.passes.specs.Written.{lane};
+ghost use Rattle.pixels.specs.Pixels.{pixelFrom};
 ghost use Rattle.blend.specs.Blend.{mixAt, startOf, tapOf, Blendable};
-ghost use Rattle.blend.specs.Pixels.{channelOf, pixelAt, samplePixel, mixPixels};
+ghost use Rattle.blend.specs.Pixels.{channelOf, samplePixel, mixPixels};
 ghost use Rattle.blend.specs.Parts.{Room, PassPartInside};
 use edges::At;
 use edges::extend;
@@ -101,15 +102,9 @@ fn blend_element(
 // Pixel i of the row at start.
 fn read_pixel(src: &[u8], start: usize, i: usize) -> Pixel
     requires { ⌜ start + i * 4 + 4 ≤ length (now src) ⌝ }
-    ensures { λ r. ⌜ r ≡ pixelAt (now (src .entry)) (start + i * 4) ⌝ }
+    ensures { λ r. ⌜ r ≡ pixelFrom (now (src .entry)) (start + i * 4) ⌝ }
 {
-    let at = start + i * 4;
-    Pixel {
-        r: src[at],
-        g: src[at + 1],
-        b: src[at + 2],
-        a: src[at + 3],
-    }
+    pixels::pixel_from(src, start + i * 4)
 }
 
 // The pixel of a row of len pixels that the coordinate c - d reads: four zeros where there is none.
@@ -146,11 +141,7 @@ fn write_pixel(dst: &mut [u8], o: usize, i: usize, p: Pixel)
     requires { ⌜ o + i * 4 + 4 ≤ length (now dst) ⌝ }
     ensures { λ _. ⌜ Run 0 (now (dst .entry)) (now (dst .exit)) (o + i * 4) 4 (channelOf p) ⌝ }
 {
-    let at = o + i * 4;
-    dst[at] = p.r;
-    dst[at + 1] = p.g;
-    dst[at + 2] = p.b;
-    dst[at + 3] = p.a;
+    pixels::set_pixel_from(dst, o + i * 4, p);
 }
 
 // Output x of a line of len elements, halved, into the element at o.

@@ -110,7 +110,7 @@ fn convolve_strips(
 {
     let mut from = 0;
     while from < stride {
-        let n = blocks::least(LANES, stride - from);
+        let n = picture::least(LANES, stride - from);
         convolve_strip(
             line,
             acc,

@@ -12,13 +12,6 @@ ghost use Rattle.blocks.specs.Blocks.{blockValue, Made};
 use edges::At;
 use picture::EdgeMode;
 
-// The lesser of two numbers.
-pub fn least(a: usize, b: usize) -> usize
-    ensures { λ r. ⌜ r ≡ min a b ⌝ }
-{
-    if a < b { a } else { b }
-}
-
 // a - b, or 0 where b is more.
 fn excess(a: usize, b: usize) -> usize
     ensures { λ r. ⌜ r ≡ a - b ⌝ }
@@ -103,7 +96,7 @@ pub fn fill_whole(
     ensures { λ _. ⌜ Made nan (blockValue mode (now (src .entry)) start len stride 0 stride x d) (λ t. t < count * stride) (now (line .entry)) (now (line .exit)) ⌝ }
 {
     let low = excess(d, x);
-    let high = least(count, len + d - x);
+    let high = picture::least(count, len + d - x);
     fill(line, stride, 0, low, src, start, len, stride, 0, x, d, mode);
     lanes::widen(
         line,

@@ -65,7 +65,7 @@ fn src_over_channel(src: u8, dst: u8, alpha: u8) -> u8
 }
 
 // One pixel over another.
-pub fn compose_src_over(src: Pixel, dst: Pixel) -> Pixel
+fn compose_src_over(src: Pixel, dst: Pixel) -> Pixel
     ensures { λ r. ⌜ r ≡ overPixel src dst ⌝ }
 {
     Pixel {

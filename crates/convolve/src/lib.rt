@@ -46,7 +46,7 @@ fn convolve_line(
 {
     let mut x = 0;
     while x < len {
-        let m = blocks::least(most, len - x);
+        let m = picture::least(most, len - x);
         block_sums::convolve_block(line, acc, src, start, dst, len, stride, x, m, weights, mode);
         x += m;
     }
@@ -138,7 +138,7 @@ fn convolve_long(
     requires { ⌜ ConvolveLines (now src) (now dst) (now weights) lines len stride ⌝ }
     ensures { λ _. ⌜ now (dst .exit) ≡ passed (convolve mode (now (weights .entry))) (now (src .entry)) lines len len stride ⌝ }
 {
-    let most = SUMS / blocks::least(stride, block_sums::WHOLE);
+    let most = SUMS / picture::least(stride, block_sums::WHOLE);
     let mut line = [0.0f32; LINE];
     let mut acc = [0.0f32; SUMS];
     each_line(

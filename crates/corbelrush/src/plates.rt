@@ -26,9 +26,8 @@ pub extern "C" fn corbelrush_plate_picture(
     match found {
         Lookup::Refused(_) => found.number(),
         Lookup::Found { size, stretch } => {
-            let level = size.level_zero();
-            *w = level.width() as u32;
-            *h = level.height() as u32;
+            *w = size.width() as u32;
+            *h = size.height() as u32;
             *offset = stretch.offset as u64;
             *length = stretch.length as u64;
             0

@@ -1,15 +1,7 @@
 // The longest body of a plate: how much of the scratch the job uses.
 ghost use mathlib.Core.Path.{_≡_};
-ghost use Prim.Native.Nat.{max};
 ghost use Rattle.plate_format.specs.Needs.{Tabled};
 ghost use Rattle.job.specs.Job.{longestBody};
-
-// The larger of two lengths.
-fn larger(a: usize, b: usize) -> usize
-    ensures { λ r. ⌜ r ≡ max a b ⌝ }
-{
-    if a < b { b } else { a }
-}
 
 // The longest body's length, 0 for a plate without pictures.
 pub(crate) fn longest_body(plate: &[u8]) -> usize
@@ -21,7 +13,7 @@ pub(crate) fn longest_body(plate: &[u8]) -> usize
     let mut i = 0;
     while i < n {
         let e = plate_format::read_entry(plate, i);
-        longest = larger(longest, e.length as usize);
+        longest = picture::greatest(longest, e.length as usize);
         i += 1;
     }
     longest

@@ -39,14 +39,14 @@ abbrev pub spreadChecks : List Float → ℕ → List Check
 spreadChecks ws n = check 4 (wrongTaps (length ws)) ∷ check 6 (tooDeep n) ∷ check 11 (offGrid ws) ∷ []
 
 -- the number of each refusal of the report
-abbrev pub numberOf : SpreadRefusal → ℕ
-numberOf WrongTaps = 4
-numberOf TooDeep = 6
-numberOf OffGrid = 11
+abbrev pub spreadNumber : SpreadRefusal → ℕ
+spreadNumber WrongTaps = 4
+spreadNumber TooDeep = 6
+spreadNumber OffGrid = 11
 
 -- the number and the spread of each case of the answer
 abbrev pub report : Reported → Answer ℕ
-report (Refused r) = answered (numberOf r) 0
+report (Refused r) = answered (spreadNumber r) 0
 report (Found s) = answered 0 (s .units)
 
 -- the first refusal, and a spread of 0; or the spread

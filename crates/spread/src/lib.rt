@@ -3,7 +3,7 @@ ghost use mathlib.Core.Path.{_≡_};
 ghost use Prim.Native.Nat.{_*_, _^_, _≤_};
 ghost use Rattle.picture.specs.Refusal.{maxDecimations};
 ghost use Rattle.binary32.specs.Grid.{numerator};
-ghost use Rattle.spread.specs.Spread.{numberOf, distance, WholeKernel, momentOf, decimationTerm, spreadOf, report, reported};
+ghost use Rattle.spread.specs.Spread.{spreadNumber, distance, WholeKernel, momentOf, decimationTerm, spreadOf, report, reported};
 use binary32::GridWeight;
 
 // How many units a square full-size pixel has.
@@ -24,7 +24,7 @@ pub enum SpreadRefusal {
 impl SpreadRefusal {
     // The refusal's number.
     pub fn number(self) -> u32
-        ensures { λ r. ⌜ r ≡ numberOf self ⌝ }
+        ensures { λ r. ⌜ r ≡ spreadNumber self ⌝ }
     {
         match self {
             SpreadRefusal::WrongTaps => picture::WRONG_TAPS,

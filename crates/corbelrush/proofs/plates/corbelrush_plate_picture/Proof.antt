@@ -21,30 +21,26 @@ number-requires c κs = search needs
 enum-known-found : tie.Need-enum-known-found
 enum-known-found c = search needs
 
-level-zero-requires : tie.Need-level-zero-requires
-level-zero-requires c κs = search needs
-
 width-requires : tie.Need-width-requires
 width-requires c κs = search needs
 
 -- what was found
-found : (c : tie.After-level-zero) →
-    let level = c .level-zero .result in
-    let stretch = c .before .before .found .given .0 .1 .0 in
-    let a = c .before .before .before .before .before .before .args in
-    answered 0 (pictureIn (level .w) (level .h) (stretch .offset) (stretch .length)) ≡ lookedUp (a .plate .now) (a .index)
-found c =
+found : (c : tie.After-width) →
     let f = c .before .before in
-    rw (c .level-zero .ensures) (rw (f .found .given .1) at (f .before .before .find-picture .ensures))
+    let size = f .found .given .0 .0 in
+    let stretch = f .found .given .0 .1 .0 in
+    let a = f .before .before .before .before .args in
+    answered 0 (pictureIn (size .w) (size .h) (stretch .offset) (stretch .length)) ≡ lookedUp (a .plate .now) (a .index)
+found c = let f = c .before .before in rw (f .found .given .1) at (f .before .before .find-picture .ensures)
 
 cast-w : tie.Need-cast-w
-cast-w c = omega (arith, c .width .ensures, sides-fit _ _ (found (c .before)) .0)
+cast-w c = omega (arith, c .width .ensures, sides-fit _ _ (found c) .0)
 
 height-requires : tie.Need-height-requires
 height-requires c κs = search needs
 
 cast-h : tie.Need-cast-h
-cast-h c = omega (arith, c .height .ensures, sides-fit _ _ (found (c .before .before)) .1)
+cast-h c = omega (arith, c .height .ensures, sides-fit _ _ (found (c .before)) .1)
 
 returns : tie.Need-returns
 returns c =
@@ -52,7 +48,7 @@ returns c =
     rw (c .number .ensures, c .before .enum-told .given .1) (rw (c .before .enum-told .given .1) at (e .find-picture .ensures))
 
 returns-2 : tie.Need-returns-2
-returns-2 c = rw (c .before .width .ensures, c .height .ensures) (found (c .before .before))
+returns-2 c = rw (c .before .width .ensures, c .height .ensures) (found (c .before))
 
 pub corbelrush-plate-picture-spec : {M : Type 1} → statement M
 corbelrush-plate-picture-spec =
@@ -62,7 +58,6 @@ corbelrush-plate-picture-spec =
     enum-told
     number-requires
     enum-known-found
-    level-zero-requires
     width-requires
     cast-w
     height-requires

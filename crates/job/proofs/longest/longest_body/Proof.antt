@@ -24,11 +24,11 @@ loop-holds c = (search needs, refl)
 read-entry-requires : tie.Need-read-entry-requires Inv-loop μ-loop
 read-entry-requires c κs = search needs
 
-cast-larger : tie.Need-cast-larger Inv-loop μ-loop
-cast-larger c = search needs
+cast-greatest : tie.Need-cast-greatest Inv-loop μ-loop
+cast-greatest c = search needs
 
-larger-requires : tie.Need-larger-requires Inv-loop μ-loop
-larger-requires c κs = search needs
+greatest-requires : tie.Need-greatest-requires Inv-loop μ-loop
+greatest-requires c κs = search needs
 
 add-i : tie.Need-add-i Inv-loop μ-loop
 add-i c = search needs
@@ -40,7 +40,7 @@ loop-again : tie.Need-loop-again Inv-loop μ-loop
 unfolding longestBelow
 loop-again c =
     let e = c .before .before in
-    (search needs, c .larger .ensures ∙ rw (add-one, e .before .before .loop .inv .1, e .read-entry .ensures))
+    (search needs, c .greatest .ensures ∙ rw (add-one, e .before .before .loop .inv .1, e .read-entry .ensures))
 
 returns : tie.Need-returns Inv-loop μ-loop
 returns c =
@@ -56,8 +56,8 @@ longest-body-spec =
     count-requires
     loop-holds
     read-entry-requires
-    cast-larger
-    larger-requires
+    cast-greatest
+    greatest-requires
     add-i
     loop-less
     loop-again
