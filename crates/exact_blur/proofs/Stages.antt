@@ -26,11 +26,8 @@ done n t = after Near (over-by 8) (over-by 4) (over-by 65536) n t
 
 more : (n m : ℕ) → 4 * (4 * (scaleOf n * (8 * (8 * m)))) ≡ scaleOf (suc n) * m
 more n m =
-    let e : scaleOf (suc n) ≡ scaleOf n * 1024 = ap (λ (k : ℕ). 2 ^ k) (exponent n) ∙ pow-add 2 (10 * n + 32) 10 in
+    let e : scaleOf (suc n) ≡ scaleOf n * 1024 = ap (λ (k : ℕ). 2 ^ k) (omega arith) ∙ pow-add 2 _ 10 in
     rw (e, mul-assoc (scaleOf n) 1024 m, mul-left-comm (scaleOf n) 8 (8 * m), mul-left-comm (scaleOf n) 8 m, mul-left-comm (scaleOf n) 1024 m) (omega arith)
-  where
-    exponent : (n : ℕ) → 10 * suc n + 32 ≡ 10 * n + 32 + 10
-    exponent n = omega arith
 
 pub done-scale : (n : ℕ) (t : Stage) → done n t .scale ≡ scaleOf n * t .scale
 unfolding after
