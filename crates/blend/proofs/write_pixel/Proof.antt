@@ -1,5 +1,6 @@
 -- The pixel is written where its bytes start.
 use borrow.Author.Needs.{needs}
+use Prim.Native.Nat.{_+_, _*_}
 use denote.Ref.{now}
 use Rattle.blend.proofs.Pixels.{pixel-run}
 use Rattle.blend.proofs.write_pixel.Statement.{statement}
