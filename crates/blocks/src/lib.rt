@@ -1,7 +1,7 @@
 // The values that a convolution reads: bytes made floats once for a block of elements. Edges are worked out as a
 // block is filled, once for each element.
 ghost use mathlib.Core.Path.{_≡_};
-ghost use Prim.Native.Nat.{_+_, _-_, _*_, _≤_, _<_, min};
+ghost use Prim.Native.Nat.{_+_, _-_, _*_, _≤_, _<_};
 ghost use lib.Ieee.{nan};
 ghost use lib.ListN.{length};
 ghost use Rattle.picture.specs.Spans.{Run};

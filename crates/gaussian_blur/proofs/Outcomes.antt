@@ -1,5 +1,5 @@
 -- Laws of what a call leaves: the picture by its strength, the scratch cleared, and what no refusal says.
-use mathlib.Core.Path.{_≡_, _∙_, sym, ap}
+use mathlib.Core.Path.{_≡_, _∙_}
 use mathlib.Core.Bool.{true, false}
 use mathlib.Core.List.{List, _++_}
 use Prim.Native.Nat.{ℕ, _≤_}

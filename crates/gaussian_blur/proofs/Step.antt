@@ -7,16 +7,15 @@ use native.Mathlib.Omega.{arith}
 use lib.Ieee.{Float}
 use lib.ListN.{length, take, drop}
 use lib.Seq.{take-at, length-take-le}
-use Rattle.picture.specs.Planes.{Plane, chan, painted}
 use Rattle.picture.specs.Sizes.{half, halfLevel, levelBytes, Sized}
 use Rattle.picture.specs.declared.EdgeMode.{EdgeMode}
 use Rattle.picture.specs.declared.LevelSize.{LevelSize}
 use Rattle.picture.proofs.Planes.{chan-painted, painted-same}
 use Rattle.passes.specs.Passes.{halve, double, convolve}
-use Rattle.passes.specs.Blur.{both, blur}
+use Rattle.passes.specs.Blur.{blur}
 use Rattle.passes.specs.Levels.{levelPass}
 use Rattle.passes.proofs.Local.{halve-local, double-local, convolve-local, both-local, blur-local}
-use Rattle.gaussian_blur.specs.Blurred.{blurred, blurredPlane}
+use Rattle.gaussian_blur.specs.Blurred.{blurred}
 
 module _ (mode : EdgeMode) (weights : List Float) (s : LevelSize) (z : Sized s) (p : List ℕ) where
   -- no decimation left: the convolution

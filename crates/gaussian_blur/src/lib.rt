@@ -3,8 +3,6 @@ use picture::EdgeMode;
 use picture::FullSize;
 use picture::LevelSize;
 ghost use mathlib.Core.Path.{_≡_};
-ghost use Prim.Native.Nat.{_≤_};
-ghost use lib.ListN.{length};
 ghost use Rattle.picture.specs.Planes.{bytesOf, cleared};
 ghost use Rattle.picture.specs.Refusal.{firstElse, firstOf};
 ghost use Rattle.picture.specs.Answer.{answered, lent};

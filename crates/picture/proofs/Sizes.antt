@@ -51,7 +51,6 @@ module _ {w h : ℕ} (z : Sides w h) where
   pixels = mul-pos (z .w-low) (z .h-low)
 
 module _ (s : LevelSize) (z : Sized s) where
-
   pub half-sized : Sized (halfLevel s)
   half-sized =
       let r = room-is in

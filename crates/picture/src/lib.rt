@@ -1,14 +1,15 @@
 // A picture's sizes, pixels and edge rules, and the checks that several entries share.
 ghost use mathlib.Core.Path.{_≡_};
 ghost use mathlib.Core.Bool.{true, false, cond};
-ghost use Prim.Native.Nat.{ℕ};
 ghost use Rattle.picture.specs.Sizes.{fullSize, levelZero, halfLevel, fullBytes, levelBytes, FullSized, Sized};
 ghost use Rattle.picture.specs.Modes.{modeOf};
 ghost use Rattle.picture.specs.Refusal.{firstElse, zeroOrAbove, wrongSides, wrongLength, tooShort, wrongTaps, tooDeep, wrongEdge, pictureChecks};
+
 mod buffers;
+
 pub use buffers::clear;
-pub use buffers::copy_forward;
 pub use buffers::copy_back;
+pub use buffers::copy_forward;
 pub use buffers::greatest;
 pub use buffers::least;
 

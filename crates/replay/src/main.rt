@@ -4,7 +4,6 @@ use libc::STDOUT_FILENO;
 use vector_values::text;
 use vectors::agrees;
 use vectors::is_of;
-ghost use Prim.Native.Nat.{_≤_};
 ghost use Rattle.replay.specs.Counts.{OneMore};
 
 // The most bytes that the program takes.

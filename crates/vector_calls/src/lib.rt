@@ -3,7 +3,7 @@ use corbelrush::filters;
 use corbelrush::grades;
 use corbelrush::plates;
 use vector_values::values;
-ghost use Prim.Native.Nat.{_≤_, _<_};
+ghost use Prim.Native.Nat.{_≤_};
 ghost use lib.ListN.{length};
 
 // What an out-parameter holds before a call.

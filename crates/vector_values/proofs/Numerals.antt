@@ -1,12 +1,12 @@
 -- A text read from the front, byte by byte: what the rest of it says, one byte on.
-use mathlib.Core.Path.{_≡_, _∙_, refl, sym, ap}
+use mathlib.Core.Path.{_≡_, _∙_, refl, ap}
 use mathlib.Core.Bool.{Bool, true, false, cond, _&&_}
 use mathlib.Core.List.{List, [], _∷_}
 use Prim.Native.Nat.{ℕ, suc, _+_, _*_, _^_, _≤_, _<_}
 use native.Mathlib.Numerals.{add-one}
 use native.Mathlib.Omega.{arith}
 use borrow.Author.Tests.{lt-ltb, le-ltb, ltb-true, ltb-false, ne-eqb, eq-eqb}
-use lib.Dec.{ltb, eqb}
+use lib.Dec.{ltb}
 use lib.ListN.{length, getD, drop, drop-of-length-le}
 use lib.Seq.{drop-cons}
 use Rattle.vector_values.specs.declared.text.Reading.{Reading}

@@ -1,5 +1,5 @@
 -- Decimal numbers and lines in a text of bytes.
-use mathlib.Core.Bool.{Bool, true, false, cond, _&&_, not}
+use mathlib.Core.Bool.{Bool, true, false, cond, _&&_}
 use mathlib.Core.List.{List, [], _∷_}
 use Prim.Native.Nat.{ℕ, suc, _+_, _*_, _-_, _^_}
 use lib.Dec.{eqb, leb, ltb}

@@ -4,7 +4,6 @@ ghost use mathlib.Core.Bool.{true};
 ghost use mathlib.Core.List.{map};
 ghost use Prim.Native.Nat.{_<_, _≤_};
 ghost use lib.ListN.{length};
-ghost use lib.Ieee.{binary32, ofBits};
 ghost use Rattle.picture.specs.Build.{build};
 ghost use Rattle.vector_values.specs.Values.{wordOf, floatOf, byteOf, signedOf, allBelow, workByte, tells, clearedWork};
 

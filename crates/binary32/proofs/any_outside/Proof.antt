@@ -19,15 +19,6 @@ abbrev μ-loop : tie.MeasureT-loop
 loop-holds : tie.Need-loop-holds Inv-loop μ-loop
 loop-holds c = (omega arith, refl)
 
-mul-outside-unit : tie.Need-mul-outside-unit Inv-loop μ-loop
-mul-outside-unit c = omega arith
-
-shared-slice-read-outside-unit : tie.Need-shared-slice-read-outside-unit Inv-loop μ-loop
-shared-slice-read-outside-unit c = omega arith
-
-outside-unit-requires : tie.Need-outside-unit-requires Inv-loop μ-loop
-outside-unit-requires c κs = search needs
-
 -- what the test at `i` and the later values say together
 looked : (c : tie.After-outside-unit Inv-loop μ-loop) →
     let at = c .before .before .before in
@@ -40,12 +31,6 @@ looked c =
 returns : tie.Need-returns Inv-loop μ-loop
 unfolding anyOutside
 returns c = sym (looked (c .before) ∙ rw (c .if1 .taken))
-
-add-i : tie.Need-add-i Inv-loop μ-loop
-add-i c = omega arith
-
-loop-less : tie.Need-loop-less Inv-loop μ-loop
-loop-less c = omega arith
 
 loop-again : tie.Need-loop-again Inv-loop μ-loop
 loop-again c = (omega arith, looked (c .before) ∙ rw (c .if1 .left))
@@ -63,11 +48,11 @@ any-outside-spec =
     Inv-loop
     μ-loop
     loop-holds
-    mul-outside-unit
-    shared-slice-read-outside-unit
-    outside-unit-requires
+    (λ c. omega arith)
+    (λ c. omega arith)
+    (λ c κs. search needs)
     returns
-    add-i
-    loop-less
+    (λ c. omega arith)
+    (λ c. omega arith)
     loop-again
     returns-2)

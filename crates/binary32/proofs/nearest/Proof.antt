@@ -17,12 +17,9 @@ add-result : tie.Need-add-result
 unfolding ofBits
 add-result c = let f = sums-fit (c .args .y) (c .pre .0) (c .pre .1) in search needs
 
-cast-result : tie.Need-cast-result
-cast-result c = search needs
-
 returns : tie.Need-returns
 unfolding ofBits
 returns c = sums-round (c .args .y) (c .pre .0) (c .pre .1)
 
 pub nearest-spec : {M : Type 1} → statement M
-nearest-spec = tie.close (tie.spec float-to-bits-a float-to-bits-b add-result cast-result returns)
+nearest-spec = tie.close (tie.spec float-to-bits-a float-to-bits-b add-result (λ c. search needs) returns)

@@ -15,9 +15,6 @@ use Rattle.binary32.proofs.numerator_of.Tie as tie
 fit : (c : tie.Start) → T (fits binary32 (c .args .x))
 fit c = subst T (sym (c .good .0 .1)) tt
 
-outside-unit-requires : tie.Need-outside-unit-requires
-outside-unit-requires c κs = search needs
-
 returns : tie.Need-returns
 returns c = outside-off (c .before .before .args .x) (sym (c .before .outside-unit .ensures) ∙ c .if1 .taken)
 
@@ -61,7 +58,7 @@ pub numerator-of-spec : {M : Type 1} → statement M
 numerator-of-spec =
     tie.close
     (tie.spec
-    outside-unit-requires
+    (λ c κs. search needs)
     returns
     truncating-f32-to-u64-requires
     int-to-float-if2

@@ -19,21 +19,6 @@ abbrev μ-loop : tie.MeasureT-loop
 loop-holds : tie.Need-loop-holds Inv-loop μ-loop
 loop-holds c = (omega arith, omega arith, off-none (c .before .args .xs .now))
 
-mul-numerator-of : tie.Need-mul-numerator-of Inv-loop μ-loop
-mul-numerator-of c = omega arith
-
-shared-slice-read-numerator-of : tie.Need-shared-slice-read-numerator-of Inv-loop μ-loop
-shared-slice-read-numerator-of c = omega arith
-
-numerator-of-requires : tie.Need-numerator-of-requires Inv-loop μ-loop
-numerator-of-requires c κs = search needs
-
-enum-known-m : tie.Need-enum-known-m Inv-loop μ-loop
-enum-known-m c = search needs
-
-enum-told : tie.Need-enum-told Inv-loop μ-loop
-enum-told c = search needs
-
 returns : tie.Need-returns Inv-loop μ-loop
 returns c =
     let call = c .before .before in
@@ -62,12 +47,6 @@ add-sum c = let j = joined c in omega arith
 returns-2 : tie.Need-returns-2 Inv-loop μ-loop
 returns-2 c = sym (joined (c .before) .1 ∙ off-far _ _ (c .if1 .taken))
 
-add-i : tie.Need-add-i Inv-loop μ-loop
-add-i c = omega arith
-
-loop-less : tie.Need-loop-less Inv-loop μ-loop
-loop-less c = omega arith
-
 loop-again : tie.Need-loop-again Inv-loop μ-loop
 loop-again c = (omega arith, omega arith, joined (c .before) .1)
 
@@ -83,15 +62,15 @@ off-grid-spec =
     Inv-loop
     μ-loop
     loop-holds
-    mul-numerator-of
-    shared-slice-read-numerator-of
-    numerator-of-requires
-    enum-known-m
-    enum-told
+    (λ c. omega arith)
+    (λ c. omega arith)
+    (λ c κs. search needs)
+    (λ c. search needs)
+    (λ c. search needs)
     returns
     add-sum
     returns-2
-    add-i
-    loop-less
+    (λ c. omega arith)
+    (λ c. omega arith)
     loop-again
     returns-3)

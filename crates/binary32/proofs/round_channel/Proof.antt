@@ -5,9 +5,6 @@ use Rattle.binary32.proofs.Channels.{capped}
 use Rattle.binary32.proofs.round_channel.Statement.{statement}
 use Rattle.binary32.proofs.round_channel.Tie as tie
 
-cap-requires : tie.Need-cap-requires
-cap-requires c κs = search needs
-
 nearest-requires : tie.Need-nearest-requires
 nearest-requires c κs = capped (c .before .args .x) (c .cap .result) (c .before .pre) (c .cap .ensures) .0
 
@@ -17,4 +14,4 @@ returns c =
     c .nearest .ensures ∙ capped (cap .before .args .x) (cap .cap .result) (cap .before .pre) (cap .cap .ensures) .1
 
 pub round-channel-spec : {M : Type 1} → statement M
-round-channel-spec = tie.close (tie.spec cap-requires nearest-requires returns)
+round-channel-spec = tie.close (tie.spec (λ c κs. search needs) nearest-requires returns)

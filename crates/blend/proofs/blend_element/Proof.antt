@@ -17,62 +17,14 @@ Inv-loop src start stride dst₀ o ta tb tc td at-a at-b at-c at-d k₀ dst k =
 abbrev μ-loop : tie.MeasureT-loop
 μ-loop src start stride dst₀ o ta tb tc td at-a at-b at-c at-d k₀ dst k = stride - k
 
-tap-of-requires : tie.Need-tap-of-requires Inv-loop μ-loop
-tap-of-requires c κs = omega arith
-
-tap-of-requires-2 : tie.Need-tap-of-requires-2 Inv-loop μ-loop
-tap-of-requires-2 c κs = omega arith
-
-tap-of-requires-3 : tie.Need-tap-of-requires-3 Inv-loop μ-loop
-tap-of-requires-3 c κs = omega arith
-
-tap-of-requires-4 : tie.Need-tap-of-requires-4 Inv-loop μ-loop
-tap-of-requires-4 c κs = omega arith
-
 loop-holds : tie.Need-loop-holds Inv-loop μ-loop
 loop-holds c =
     let st = c .before .before .before .before .before .before in
     let a = st .args in
     (omega arith, span-none (omega arith), taps-fit (a .a) (a .b) (a .c) (a .d) (now (a .src)) (a .start) (a .stride) (c .before .before .before .tap-of .ensures) (c .before .before .tap-of2 .ensures) (c .before .tap-of3 .ensures) (c .tap-of4 .ensures) (st .pre))
 
-add-blend : tie.Need-add-blend Inv-loop μ-loop
-add-blend c = omega arith
-
-shared-slice-read-blend : tie.Need-shared-slice-read-blend Inv-loop μ-loop
-shared-slice-read-blend c = omega arith
-
-add-blend-2 : tie.Need-add-blend-2 Inv-loop μ-loop
-add-blend-2 c = omega arith
-
-shared-slice-read-blend-2 : tie.Need-shared-slice-read-blend-2 Inv-loop μ-loop
-shared-slice-read-blend-2 c = omega arith
-
-add-blend-3 : tie.Need-add-blend-3 Inv-loop μ-loop
-add-blend-3 c = omega arith
-
-shared-slice-read-blend-3 : tie.Need-shared-slice-read-blend-3 Inv-loop μ-loop
-shared-slice-read-blend-3 c = omega arith
-
-add-blend-4 : tie.Need-add-blend-4 Inv-loop μ-loop
-add-blend-4 c = omega arith
-
-shared-slice-read-blend-4 : tie.Need-shared-slice-read-blend-4 Inv-loop μ-loop
-shared-slice-read-blend-4 c = omega arith
-
-blend-requires : tie.Need-blend-requires Inv-loop μ-loop
-blend-requires c κs = omega arith
-
 add-dst : tie.Need-add-dst Inv-loop μ-loop
 add-dst c = omega (arith, c .before .before .before .before .before .before .before .before)
-
-slice-write-dst : tie.Need-slice-write-dst Inv-loop μ-loop
-slice-write-dst c = omega arith
-
-add-k : tie.Need-add-k Inv-loop μ-loop
-add-k c = omega arith
-
-loop-less : tie.Need-loop-less Inv-loop μ-loop
-loop-less c = omega arith
 
 loop-again : tie.Need-loop-again Inv-loop μ-loop
 loop-again c =
@@ -99,24 +51,24 @@ blend-element-spec =
     (tie.spec
     Inv-loop
     μ-loop
-    tap-of-requires
-    tap-of-requires-2
-    tap-of-requires-3
-    tap-of-requires-4
+    (λ c κs. omega arith)
+    (λ c κs. omega arith)
+    (λ c κs. omega arith)
+    (λ c κs. omega arith)
     loop-holds
-    add-blend
-    shared-slice-read-blend
-    add-blend-2
-    shared-slice-read-blend-2
-    add-blend-3
-    shared-slice-read-blend-3
-    add-blend-4
-    shared-slice-read-blend-4
-    blend-requires
+    (λ c. omega arith)
+    (λ c. omega arith)
+    (λ c. omega arith)
+    (λ c. omega arith)
+    (λ c. omega arith)
+    (λ c. omega arith)
+    (λ c. omega arith)
+    (λ c. omega arith)
+    (λ c κs. omega arith)
     add-dst
-    slice-write-dst
-    add-k
-    loop-less
+    (λ c. omega arith)
+    (λ c. omega arith)
+    (λ c. omega arith)
     loop-again
     same-length
     returns)

@@ -4,22 +4,10 @@ use borrow.Author.Needs.{needs}
 use Rattle.blend.proofs.blend_pixels.Statement.{statement}
 use Rattle.blend.proofs.blend_pixels.Tie as tie
 
-blend-requires : tie.Need-blend-requires
-blend-requires c κs = search needs
-
-blend-requires-2 : tie.Need-blend-requires-2
-blend-requires-2 c κs = search needs
-
-blend-requires-3 : tie.Need-blend-requires-3
-blend-requires-3 c κs = search needs
-
-blend-requires-4 : tie.Need-blend-requires-4
-blend-requires-4 c κs = search needs
-
 returns : tie.Need-returns
 returns c =
     simp (c .before .before .before .blend .ensures, c .before .before .blend2 .ensures, c .before .blend3 .ensures, c .blend4 .ensures, one-mul)
 
 pub blend-pixels-spec : {M : Type 1} → statement M
 blend-pixels-spec =
-    tie.close (tie.spec blend-requires blend-requires-2 blend-requires-3 blend-requires-4 returns)
+    tie.close (tie.spec (λ c κs. search needs) (λ c κs. search needs) (λ c κs. search needs) (λ c κs. search needs) returns)

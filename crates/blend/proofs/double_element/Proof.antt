@@ -24,9 +24,6 @@ blend-element-requires c κs =
     let x = st .args .y / 2 in
     places-room (st .args .mode) (st .pre .1) x 1 x 0 x 0 x 1 (t2 .find-place2 .ensures) (t1 .find-place .ensures) (t1 .find-place .ensures) (t2 .find-place2 .ensures)
 
-add-find-place : tie.Need-add-find-place
-add-find-place c = omega arith
-
 find-place-requires-3 : tie.Need-find-place-requires-3
 find-place-requires-3 c κs = omega (arith, room-is)
 
@@ -73,7 +70,7 @@ double-element-spec =
     find-place-requires
     find-place-requires-2
     blend-element-requires
-    add-find-place
+    (λ c. omega arith)
     find-place-requires-3
     blend-element-requires-2
     same-length

@@ -12,23 +12,11 @@ use Rattle.blend.proofs.Outputs.{doubles}
 use Rattle.blend.proofs.double_end.Statement.{statement}
 use Rattle.blend.proofs.double_end.Tie as tie
 
-add-sample-pixel : tie.Need-add-sample-pixel
-add-sample-pixel c = omega arith
-
-sub-sample-pixel : tie.Need-sub-sample-pixel
-sub-sample-pixel c = omega arith
-
 sample-pixel-requires : tie.Need-sample-pixel-requires
 sample-pixel-requires c κs = omega (arith, room-is)
 
 sample-pixel-requires-2 : tie.Need-sample-pixel-requires-2
 sample-pixel-requires-2 c κs = omega (arith, room-is)
-
-blend-pixels-requires : tie.Need-blend-pixels-requires
-blend-pixels-requires c κs = tt
-
-write-pixel-requires : tie.Need-write-pixel-requires
-write-pixel-requires c κs = omega arith
 
 same-length : tie.Need-same-length
 same-length c = c .before .before .write-pixel .kept .0
@@ -53,11 +41,11 @@ pub double-end-spec : {M : Type 1} → statement M
 double-end-spec =
     tie.close
     (tie.spec
-    add-sample-pixel
-    sub-sample-pixel
+    (λ c. omega arith)
+    (λ c. omega arith)
     sample-pixel-requires
     sample-pixel-requires-2
-    blend-pixels-requires
-    write-pixel-requires
+    (λ c κs. tt)
+    (λ c κs. omega arith)
     same-length
     returns)

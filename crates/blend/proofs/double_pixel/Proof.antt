@@ -12,36 +12,6 @@ use Rattle.blend.proofs.Outputs.{even-inside, odd-inside}
 use Rattle.blend.proofs.double_pixel.Statement.{statement}
 use Rattle.blend.proofs.double_pixel.Tie as tie
 
-mul-at : tie.Need-mul-at
-mul-at c = omega arith
-
-sub-read-pixel : tie.Need-sub-read-pixel
-sub-read-pixel c = omega arith
-
-read-pixel-requires : tie.Need-read-pixel-requires
-read-pixel-requires c κs = omega arith
-
-read-pixel-requires-2 : tie.Need-read-pixel-requires-2
-read-pixel-requires-2 c κs = omega arith
-
-add-read-pixel : tie.Need-add-read-pixel
-add-read-pixel c = omega arith
-
-read-pixel-requires-3 : tie.Need-read-pixel-requires-3
-read-pixel-requires-3 c κs = omega arith
-
-blend-pixels-requires : tie.Need-blend-pixels-requires
-blend-pixels-requires c κs = tt
-
-write-pixel-requires : tie.Need-write-pixel-requires
-write-pixel-requires c κs = omega arith
-
-add-write-pixel : tie.Need-add-write-pixel
-add-write-pixel c = omega arith
-
-blend-pixels-requires-2 : tie.Need-blend-pixels-requires-2
-blend-pixels-requires-2 c κs = tt
-
 write-pixel-requires-2 : tie.Need-write-pixel-requires-2
 write-pixel-requires-2 c κs = omega (arith, c .before .before .before .before .before)
 
@@ -85,16 +55,16 @@ pub double-pixel-spec : {M : Type 1} → statement M
 double-pixel-spec =
     tie.close
     (tie.spec
-    mul-at
-    sub-read-pixel
-    read-pixel-requires
-    read-pixel-requires-2
-    add-read-pixel
-    read-pixel-requires-3
-    blend-pixels-requires
-    write-pixel-requires
-    add-write-pixel
-    blend-pixels-requires-2
+    (λ c. omega arith)
+    (λ c. omega arith)
+    (λ c κs. omega arith)
+    (λ c κs. omega arith)
+    (λ c. omega arith)
+    (λ c κs. omega arith)
+    (λ c κs. tt)
+    (λ c κs. omega arith)
+    (λ c. omega arith)
+    (λ c κs. tt)
     write-pixel-requires-2
     same-length
     returns)

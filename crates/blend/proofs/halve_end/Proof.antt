@@ -33,9 +33,6 @@ add-sample-pixel-2 c = omega (arith, room-is)
 sample-pixel-requires-4 : tie.Need-sample-pixel-requires-4
 sample-pixel-requires-4 c κs = omega (arith, room-is)
 
-blend-pixels-requires : tie.Need-blend-pixels-requires
-blend-pixels-requires c κs = tt
-
 write-pixel-requires : tie.Need-write-pixel-requires
 write-pixel-requires c κs = omega (arith, c .before .before .before .before .before .before .before .before)
 
@@ -68,7 +65,7 @@ halve-end-spec =
     sample-pixel-requires-3
     add-sample-pixel-2
     sample-pixel-requires-4
-    blend-pixels-requires
+    (λ c κs. tt)
     write-pixel-requires
     same-length
     returns)

@@ -12,36 +12,6 @@ use Rattle.blend.proofs.Outputs.{halved-inside}
 use Rattle.blend.proofs.halve_pixel.Statement.{statement}
 use Rattle.blend.proofs.halve_pixel.Tie as tie
 
-mul-at : tie.Need-mul-at
-mul-at c = omega arith
-
-sub-read-pixel : tie.Need-sub-read-pixel
-sub-read-pixel c = omega arith
-
-read-pixel-requires : tie.Need-read-pixel-requires
-read-pixel-requires c κs = omega arith
-
-read-pixel-requires-2 : tie.Need-read-pixel-requires-2
-read-pixel-requires-2 c κs = omega arith
-
-add-read-pixel : tie.Need-add-read-pixel
-add-read-pixel c = omega arith
-
-read-pixel-requires-3 : tie.Need-read-pixel-requires-3
-read-pixel-requires-3 c κs = omega arith
-
-add-read-pixel-2 : tie.Need-add-read-pixel-2
-add-read-pixel-2 c = omega arith
-
-read-pixel-requires-4 : tie.Need-read-pixel-requires-4
-read-pixel-requires-4 c κs = omega arith
-
-blend-pixels-requires : tie.Need-blend-pixels-requires
-blend-pixels-requires c κs = tt
-
-write-pixel-requires : tie.Need-write-pixel-requires
-write-pixel-requires c κs = omega arith
-
 same-length : tie.Need-same-length
 same-length c = c .before .before .write-pixel .kept .0
 
@@ -67,15 +37,15 @@ pub halve-pixel-spec : {M : Type 1} → statement M
 halve-pixel-spec =
     tie.close
     (tie.spec
-    mul-at
-    sub-read-pixel
-    read-pixel-requires
-    read-pixel-requires-2
-    add-read-pixel
-    read-pixel-requires-3
-    add-read-pixel-2
-    read-pixel-requires-4
-    blend-pixels-requires
-    write-pixel-requires
+    (λ c. omega arith)
+    (λ c. omega arith)
+    (λ c κs. omega arith)
+    (λ c κs. omega arith)
+    (λ c. omega arith)
+    (λ c κs. omega arith)
+    (λ c. omega arith)
+    (λ c κs. omega arith)
+    (λ c κs. tt)
+    (λ c κs. omega arith)
     same-length
     returns)

@@ -18,21 +18,12 @@ placed : (c : tie.After-known-told) →
     place (a .mode) (a .len) (a .c) (a .d) ≡ Inside (c .before .p .given .0 .0)
 placed c = sym (c .before .before .before .find-place .ensures) ∙ c .before .p .given .1
 
-find-place-requires : tie.Need-find-place-requires
-find-place-requires c κs = search needs
-
-enum-known-p : tie.Need-enum-known-p
-enum-known-p c = search needs
-
 read-pixel-requires : tie.Need-read-pixel-requires
 read-pixel-requires c κs =
     let st = c .before .before .before .before .before in
     let a = st .args in
     let l = found-below (below (a .mode) (a .len) (a .c) (a .d) (st .pre .0 .s-low)) (placed c) in
     omega (arith, within (a .start) 4 (c .before .p .given .0 .0) (a .len) l, st .pre .1)
-
-enum-told : tie.Need-enum-told
-enum-told c = search needs
 
 returns : tie.Need-returns
 returns c =
@@ -50,4 +41,4 @@ returns-2 c =
 pub sample-pixel-spec : {M : Type 1} → statement M
 sample-pixel-spec =
     tie.close
-    (tie.spec find-place-requires enum-known-p read-pixel-requires enum-told returns returns-2)
+    (tie.spec (λ c κs. search needs) (λ c. search needs) read-pixel-requires (λ c. search needs) returns returns-2)

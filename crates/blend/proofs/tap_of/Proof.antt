@@ -5,9 +5,6 @@ use borrow.Author.Needs.{needs}
 use Rattle.blend.proofs.tap_of.Statement.{statement}
 use Rattle.blend.proofs.tap_of.Tie as tie
 
-enum-known-p : tie.Need-enum-known-p
-enum-known-p c = search needs
-
 starts : (c : tie.After-known-told) →
     let a = c .before .before .before .args in a .start + c .before .p .given .0 .0 * a .stride < 2 ^ 64
 starts c = simp (c .before .p .given .1) at (c .before .before .before .pre)
@@ -18,9 +15,6 @@ mul-t7 c = omega (arith, starts c)
 add-t8 : tie.Need-add-t8
 add-t8 c = omega (arith, starts c)
 
-enum-told : tie.Need-enum-told
-enum-told c = search needs
-
 returns : tie.Need-returns
 returns c = simp (c .before .p .given .1)
 
@@ -28,4 +22,4 @@ returns-2 : tie.Need-returns-2
 returns-2 c = simp (c .enum-told .given .1)
 
 pub tap-of-spec : {M : Type 1} → statement M
-tap-of-spec = tie.close (tie.spec enum-known-p mul-t7 add-t8 enum-told returns returns-2)
+tap-of-spec = tie.close (tie.spec (λ c. search needs) mul-t7 add-t8 (λ c. search needs) returns returns-2)

@@ -5,21 +5,6 @@ use Rattle.composite.proofs.Table.{looked-is}
 use Rattle.composite.proofs.colour_copy.Statement.{statement}
 use Rattle.composite.proofs.colour_copy.Tie as tie
 
-slice-aggregate-shadow-table : tie.Need-slice-aggregate-shadow-table
-slice-aggregate-shadow-table c = search needs
-
-shadow-table-requires : tie.Need-shadow-table-requires
-shadow-table-requires c κs = search needs
-
-slice-aggregate-look-up : tie.Need-slice-aggregate-look-up
-slice-aggregate-look-up c = search needs
-
-look-up-requires : tie.Need-look-up-requires
-look-up-requires c κs = search needs
-
-same-length : tie.Need-same-length
-same-length c = search needs
-
 returns : tie.Need-returns
 returns c =
     let look = c .before .before in
@@ -32,9 +17,9 @@ pub colour-copy-spec : {M : Type 1} → statement M
 colour-copy-spec =
     tie.close
     (tie.spec
-    slice-aggregate-shadow-table
-    shadow-table-requires
-    slice-aggregate-look-up
-    look-up-requires
-    same-length
+    (λ c. search needs)
+    (λ c κs. search needs)
+    (λ c. search needs)
+    (λ c κs. search needs)
+    (λ c. search needs)
     returns)

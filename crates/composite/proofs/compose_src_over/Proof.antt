@@ -3,18 +3,6 @@ use borrow.Author.Needs.{needs}
 use Rattle.composite.proofs.compose_src_over.Statement.{statement}
 use Rattle.composite.proofs.compose_src_over.Tie as tie
 
-src-over-channel-requires : tie.Need-src-over-channel-requires
-src-over-channel-requires c κs = search needs
-
-src-over-channel-requires-2 : tie.Need-src-over-channel-requires-2
-src-over-channel-requires-2 c κs = search needs
-
-src-over-channel-requires-3 : tie.Need-src-over-channel-requires-3
-src-over-channel-requires-3 c κs = search needs
-
-src-over-channel-requires-4 : tie.Need-src-over-channel-requires-4
-src-over-channel-requires-4 c κs = search needs
-
 returns : tie.Need-returns
 returns c =
     rw (c .before .before .before .src-over-channel .ensures, c .before .before .src-over-channel2 .ensures, c .before .src-over-channel3 .ensures, c .src-over-channel4 .ensures)
@@ -23,8 +11,8 @@ pub compose-src-over-spec : {M : Type 1} → statement M
 compose-src-over-spec =
     tie.close
     (tie.spec
-    src-over-channel-requires
-    src-over-channel-requires-2
-    src-over-channel-requires-3
-    src-over-channel-requires-4
+    (λ c κs. search needs)
+    (λ c κs. search needs)
+    (λ c κs. search needs)
+    (λ c κs. search needs)
     returns)

@@ -17,33 +17,12 @@ Inv-loop copy₀ table n i₀ copy i = Painting (λ j c. at table (at copy₀ j 
 abbrev μ-loop : tie.MeasureT-loop
 μ-loop copy₀ table n i₀ copy i = n - i
 
-bytes-requires : tie.Need-bytes-requires Inv-loop μ-loop
-bytes-requires c κs = search needs
-
 loop-holds : tie.Need-loop-holds Inv-loop μ-loop
 loop-holds c = begins
 
 -- the pixel that is next lies inside
 room : (c : tie.In-loop Inv-loop μ-loop) → 4 * c .before .loop .i + 4 ≤ length (c .before .loop .copy)
 room c = omega arith
-
-pixel-at-requires : tie.Need-pixel-at-requires Inv-loop μ-loop
-pixel-at-requires c κs = search needs
-
-cast-alpha : tie.Need-cast-alpha Inv-loop μ-loop
-cast-alpha c = search needs
-
-pixel-at-requires-2 : tie.Need-pixel-at-requires-2 Inv-loop μ-loop
-pixel-at-requires-2 c κs = search needs
-
-set-pixel-requires : tie.Need-set-pixel-requires Inv-loop μ-loop
-set-pixel-requires c κs = search needs
-
-add-i : tie.Need-add-i Inv-loop μ-loop
-add-i c = search needs
-
-loop-less : tie.Need-loop-less Inv-loop μ-loop
-loop-less c = search needs
 
 loop-again : tie.Need-loop-again Inv-loop μ-loop
 loop-again c =
@@ -52,9 +31,6 @@ loop-again c =
     let at = here .before .before in
     turn (at .before .loop .inv) (set .before .pixel-at2 .result) (at .loop-test .taken) (room at) (set .set-pixel .ensures)
     (set .before .pixel-at2 .ensures ∙ ap (λ (p : Pixel). pixelAt (at .before .before .before .before .before .args .table .now) (p .a)) (here .pixel-at .ensures ∙ next (at .before .loop .inv)))
-
-same-length : tie.Need-same-length Inv-loop μ-loop
-same-length c = search needs
 
 returns : tie.Need-returns Inv-loop μ-loop
 unfolding looked
@@ -69,14 +45,14 @@ look-up-spec =
     (tie.spec
     Inv-loop
     μ-loop
-    bytes-requires
+    (λ c κs. search needs)
     loop-holds
-    pixel-at-requires
-    cast-alpha
-    pixel-at-requires-2
-    set-pixel-requires
-    add-i
-    loop-less
+    (λ c κs. search needs)
+    (λ c. search needs)
+    (λ c κs. search needs)
+    (λ c κs. search needs)
+    (λ c. search needs)
+    (λ c. search needs)
     loop-again
-    same-length
+    (λ c. search needs)
     returns)

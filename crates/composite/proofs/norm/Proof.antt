@@ -6,12 +6,9 @@ use Rattle.composite.specs.Channels.{norm}
 use Rattle.composite.proofs.norm.Statement.{statement}
 use Rattle.composite.proofs.norm.Tie as tie
 
-int-to-float-result : tie.Need-int-to-float-result
-int-to-float-result c = search needs
-
 returns : tie.Need-returns
 unfolding ofBits norm
 returns c = refl
 
 pub norm-spec : {M : Type 1} → statement M
-norm-spec = tie.close (tie.spec int-to-float-result returns)
+norm-spec = tie.close (tie.spec (λ c. search needs) returns)

@@ -8,12 +8,6 @@ use Rattle.composite.proofs.Units.{alpha-asks}
 use Rattle.composite.proofs.shadow_alpha.Statement.{statement}
 use Rattle.composite.proofs.shadow_alpha.Tie as tie
 
-norm-requires : tie.Need-norm-requires
-norm-requires c κs = search needs
-
-at-most-one-requires : tie.Need-at-most-one-requires
-at-most-one-requires c κs = search needs
-
 is : (c : tie.After-at-most-one) → let s = c .before .before .args in c .at-most-one .result ≡ atMostOne (mul binary32 (norm (s .alpha)) (s .colour))
 is c = c .at-most-one .ensures ∙ ap (λ (x : Float). atMostOne (mul binary32 x (c .before .before .args .colour))) (c .before .norm .ensures)
 
@@ -25,4 +19,4 @@ unfolding shadowAlpha
 returns c = c .norm-to-u8 .ensures ∙ ap normByte (is (c .before))
 
 pub shadow-alpha-spec : {M : Type 1} → statement M
-shadow-alpha-spec = tie.close (tie.spec norm-requires at-most-one-requires norm-to-u8-requires returns)
+shadow-alpha-spec = tie.close (tie.spec (λ c κs. search needs) (λ c κs. search needs) norm-to-u8-requires returns)

@@ -5,26 +5,14 @@ use borrow.Author.Needs.{needs}
 use Rattle.composite.proofs.shadow_pixel.Statement.{statement}
 use Rattle.composite.proofs.shadow_pixel.Tie as tie
 
-shadow-alpha-requires : tie.Need-shadow-alpha-requires
-shadow-alpha-requires c κs = search needs
-
 norm-to-u8-requires : tie.Need-norm-to-u8-requires
 norm-to-u8-requires c κs = let s = c .before in component-asks (s .args .colour .red) (s .pre .red)
-
-premultiply-requires : tie.Need-premultiply-requires
-premultiply-requires c κs = search needs
 
 norm-to-u8-requires-2 : tie.Need-norm-to-u8-requires-2
 norm-to-u8-requires-2 c κs = let s = c .before .before .before in component-asks (s .args .colour .green) (s .pre .green)
 
-premultiply-requires-2 : tie.Need-premultiply-requires-2
-premultiply-requires-2 c κs = search needs
-
 norm-to-u8-requires-3 : tie.Need-norm-to-u8-requires-3
 norm-to-u8-requires-3 c κs = let s = c .before .before .before .before .before in component-asks (s .args .colour .blue) (s .pre .blue)
-
-premultiply-requires-3 : tie.Need-premultiply-requires-3
-premultiply-requires-3 c κs = search needs
 
 returns : tie.Need-returns
 unfolding tinted shadowOf
@@ -38,11 +26,11 @@ pub shadow-pixel-spec : {M : Type 1} → statement M
 shadow-pixel-spec =
     tie.close
     (tie.spec
-    shadow-alpha-requires
+    (λ c κs. search needs)
     norm-to-u8-requires
-    premultiply-requires
+    (λ c κs. search needs)
     norm-to-u8-requires-2
-    premultiply-requires-2
+    (λ c κs. search needs)
     norm-to-u8-requires-3
-    premultiply-requires-3
+    (λ c κs. search needs)
     returns)

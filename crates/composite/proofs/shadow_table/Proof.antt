@@ -17,29 +17,11 @@ abbrev μ-loop : tie.MeasureT-loop
 loop-holds : tie.Need-loop-holds Inv-loop μ-loop
 loop-holds c = begins
 
-cast-shadow-pixel : tie.Need-cast-shadow-pixel Inv-loop μ-loop
-cast-shadow-pixel c = search needs
-
-shadow-pixel-requires : tie.Need-shadow-pixel-requires Inv-loop μ-loop
-shadow-pixel-requires c κs = search needs
-
-set-pixel-requires : tie.Need-set-pixel-requires Inv-loop μ-loop
-set-pixel-requires c κs = search needs
-
-add-i : tie.Need-add-i Inv-loop μ-loop
-add-i c = search needs
-
-loop-less : tie.Need-loop-less Inv-loop μ-loop
-loop-less c = search needs
-
 loop-again : tie.Need-loop-again Inv-loop μ-loop
 loop-again c =
     let call = c .before .before in
     let at = call .before .before .before .before in
     turn (at .loop .inv) (call .before .shadow-pixel .result) (omega arith) (omega arith) (call .set-pixel .ensures) (call .before .shadow-pixel .ensures)
-
-same-length : tie.Need-same-length Inv-loop μ-loop
-same-length c = search needs
 
 returns : tie.Need-returns Inv-loop μ-loop
 returns c =
@@ -54,11 +36,11 @@ shadow-table-spec =
     Inv-loop
     μ-loop
     loop-holds
-    cast-shadow-pixel
-    shadow-pixel-requires
-    set-pixel-requires
-    add-i
-    loop-less
+    (λ c. search needs)
+    (λ c κs. search needs)
+    (λ c κs. search needs)
+    (λ c. search needs)
+    (λ c. search needs)
     loop-again
-    same-length
+    (λ c. search needs)
     returns)

@@ -9,18 +9,6 @@ use Rattle.composite.proofs.Whole.{over-is}
 use Rattle.composite.proofs.src_over_channel.Statement.{statement}
 use Rattle.composite.proofs.src_over_channel.Tie as tie
 
-wide-requires : tie.Need-wide-requires
-wide-requires c κs = search needs
-
-wide-requires-2 : tie.Need-wide-requires-2
-wide-requires-2 c κs = search needs
-
-wide-requires-3 : tie.Need-wide-requires-3
-wide-requires-3 c κs = search needs
-
-sub-sum : tie.Need-sub-sum
-sub-sum c = search needs
-
 -- the product fits, and the sum is `over` where it is held at 255
 known : (c : tie.After-wide3) →
     let d = c .before .wide2 .result in
@@ -42,9 +30,6 @@ add-sum c = let k = known c in search needs
 add-sum-2 : tie.Need-add-sum-2
 add-sum-2 c = let k = known c in omega arith
 
-cast-result : tie.Need-cast-result
-cast-result c = search needs
-
 returns : tie.Need-returns
 returns c = let k = known (c .before) in omega arith
 
@@ -55,13 +40,13 @@ pub src-over-channel-spec : {M : Type 1} → statement M
 src-over-channel-spec =
     tie.close
     (tie.spec
-    wide-requires
-    wide-requires-2
-    wide-requires-3
-    sub-sum
+    (λ c κs. search needs)
+    (λ c κs. search needs)
+    (λ c κs. search needs)
+    (λ c. search needs)
     mul-sum
     add-sum
     add-sum-2
-    cast-result
+    (λ c. search needs)
     returns
     returns-2)

@@ -23,14 +23,8 @@ loop-holds c = (omega arith, omega arith, refl, λ mode. span-none (omega arith)
 add-loop : tie.Need-add-loop Inv-loop μ-loop
 add-loop c = omega (arith, room-is)
 
-double-pixel-requires : tie.Need-double-pixel-requires Inv-loop μ-loop
-double-pixel-requires c κs = omega arith
-
 add-x : tie.Need-add-x Inv-loop μ-loop
 add-x c = omega (arith, room-is)
-
-loop-less : tie.Need-loop-less Inv-loop μ-loop
-loop-less c = omega arith
 
 loop-again : tie.Need-loop-again Inv-loop μ-loop
 loop-again c =
@@ -56,9 +50,9 @@ double-inner-spec =
     μ-loop
     loop-holds
     add-loop
-    double-pixel-requires
+    (λ c κs. omega arith)
     add-x
-    loop-less
+    (λ c. omega arith)
     loop-again
     same-length
     returns)

@@ -6,9 +6,6 @@ use Rattle.decimate.proofs.Levels.{whole, doubling}
 use Rattle.decimate.proofs.double_level.Statement.{statement}
 use Rattle.decimate.proofs.double_level.Tie as tie
 
-half-requires : tie.Need-half-requires
-half-requires c κs = search needs
-
 resize-level-requires : tie.Need-resize-level-requires
 resize-level-requires c κs = rw (c .half .ensures) (doubling (c .before .before .before .before .before .pre))
 
@@ -27,4 +24,4 @@ returns c =
 
 pub double-level-spec : {M : Type 1} → statement M
 double-level-spec =
-    tie.close (tie.spec half-requires resize-level-requires same-length same-length-2 returns)
+    tie.close (tie.spec (λ c κs. search needs) resize-level-requires same-length same-length-2 returns)

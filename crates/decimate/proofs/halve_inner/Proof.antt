@@ -26,14 +26,8 @@ mul-loop c = omega (arith, room-is)
 add-loop : tie.Need-add-loop Inv-loop μ-loop
 add-loop c = omega (arith, room-is)
 
-halve-pixel-requires : tie.Need-halve-pixel-requires Inv-loop μ-loop
-halve-pixel-requires c κs = omega arith
-
 add-x : tie.Need-add-x Inv-loop μ-loop
 add-x c = omega (arith, room-is)
-
-loop-less : tie.Need-loop-less Inv-loop μ-loop
-loop-less c = omega arith
 
 loop-again : tie.Need-loop-again Inv-loop μ-loop
 loop-again c =
@@ -59,9 +53,9 @@ halve-inner-spec =
     loop-holds
     mul-loop
     add-loop
-    halve-pixel-requires
+    (λ c κs. omega arith)
     add-x
-    loop-less
+    (λ c. omega arith)
     loop-again
     same-length
     returns)

@@ -9,9 +9,6 @@ use Rattle.decimate.proofs.Levels.{whole, halving}
 use Rattle.decimate.proofs.halve_level.Statement.{statement}
 use Rattle.decimate.proofs.halve_level.Tie as tie
 
-half-requires : tie.Need-half-requires
-half-requires c κs = search needs
-
 resize-level-requires : tie.Need-resize-level-requires
 resize-level-requires c κs = rw (c .half .ensures) (halving (c .before .before .before .before .before .pre))
 
@@ -31,4 +28,4 @@ returns c =
 
 pub halve-level-spec : {M : Type 1} → statement M
 halve-level-spec =
-    tie.close (tie.spec half-requires resize-level-requires same-length same-length-2 returns)
+    tie.close (tie.spec (λ c κs. search needs) resize-level-requires same-length same-length-2 returns)

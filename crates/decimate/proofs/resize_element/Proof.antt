@@ -3,14 +3,8 @@ use borrow.Author.Needs.{needs}
 use Rattle.decimate.proofs.resize_element.Statement.{statement}
 use Rattle.decimate.proofs.resize_element.Tie as tie
 
-enum-told : tie.Need-enum-told
-enum-told c = search needs
-
 halve-element-requires : tie.Need-halve-element-requires
 halve-element-requires c κs = c .before .before .before .before .before .pre
-
-enum-told-2 : tie.Need-enum-told-2
-enum-told-2 c = search needs
 
 double-element-requires : tie.Need-double-element-requires
 double-element-requires c κs = c .before .before .before .before .before .pre
@@ -35,9 +29,9 @@ pub resize-element-spec : {M : Type 1} → statement M
 resize-element-spec =
     tie.close
     (tie.spec
-    enum-told
+    (λ c. search needs)
     halve-element-requires
-    enum-told-2
+    (λ c. search needs)
     double-element-requires
     same-length
     returns

@@ -3,14 +3,8 @@ use borrow.Author.Needs.{needs}
 use Rattle.decimate.proofs.resize_end.Statement.{statement}
 use Rattle.decimate.proofs.resize_end.Tie as tie
 
-enum-told : tie.Need-enum-told
-enum-told c = search needs
-
 halve-end-requires : tie.Need-halve-end-requires
 halve-end-requires c κs = c .before .before .before .before .before .pre
-
-enum-told-2 : tie.Need-enum-told-2
-enum-told-2 c = search needs
 
 double-end-requires : tie.Need-double-end-requires
 double-end-requires c κs = c .before .before .before .before .before .pre
@@ -35,9 +29,9 @@ pub resize-end-spec : {M : Type 1} → statement M
 resize-end-spec =
     tie.close
     (tie.spec
-    enum-told
+    (λ c. search needs)
     halve-end-requires
-    enum-told-2
+    (λ c. search needs)
     double-end-requires
     same-length
     returns

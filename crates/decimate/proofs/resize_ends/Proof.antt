@@ -28,12 +28,6 @@ resize-end-requires c κs =
     let g = c .before .before in
     (omega arith, next-room (g .loop .inv) (g .before .before .before .pre .2) (c .before .loop-test .taken))
 
-add-y : tie.Need-add-y Inv-loop μ-loop
-add-y c = omega arith
-
-loop-less : tie.Need-loop-less Inv-loop μ-loop
-loop-less c = omega arith
-
 loop-again : tie.Need-loop-again Inv-loop μ-loop
 loop-again c =
     let e = c .before .before in
@@ -56,8 +50,8 @@ resize-ends-spec =
     mul-resize-end
     add-resize-end
     resize-end-requires
-    add-y
-    loop-less
+    (λ c. omega arith)
+    (λ c. omega arith)
     loop-again
     same-length
     returns)

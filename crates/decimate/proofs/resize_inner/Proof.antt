@@ -3,14 +3,8 @@ use borrow.Author.Needs.{needs}
 use Rattle.decimate.proofs.resize_inner.Statement.{statement}
 use Rattle.decimate.proofs.resize_inner.Tie as tie
 
-enum-told : tie.Need-enum-told
-enum-told c = search needs
-
 halve-inner-requires : tie.Need-halve-inner-requires
 halve-inner-requires c κs = rw (c .before .enum-told .given .1) at (c .before .before .before .before .before .pre)
-
-enum-told-2 : tie.Need-enum-told-2
-enum-told-2 c = search needs
 
 double-inner-requires : tie.Need-double-inner-requires
 double-inner-requires c κs = rw (c .before .enum-told2 .given .1) at (c .before .before .before .before .before .pre)
@@ -35,9 +29,9 @@ pub resize-inner-spec : {M : Type 1} → statement M
 resize-inner-spec =
     tie.close
     (tie.spec
-    enum-told
+    (λ c. search needs)
     halve-inner-requires
-    enum-told-2
+    (λ c. search needs)
     double-inner-requires
     same-length
     returns

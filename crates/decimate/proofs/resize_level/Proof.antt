@@ -12,24 +12,6 @@ use Rattle.decimate.proofs.Levels.{rows-lines, cols-lines, level-made}
 use Rattle.decimate.proofs.resize_level.Statement.{statement}
 use Rattle.decimate.proofs.resize_level.Tie as tie
 
-width-requires : tie.Need-width-requires
-width-requires c κs = tt
-
-height-requires : tie.Need-height-requires
-height-requires c κs = tt
-
-width-requires-2 : tie.Need-width-requires-2
-width-requires-2 c κs = tt
-
-height-requires-2 : tie.Need-height-requires-2
-height-requires-2 c κs = tt
-
-bytes-requires : tie.Need-bytes-requires
-bytes-requires c κs = search needs
-
-bytes-requires-2 : tie.Need-bytes-requires-2
-bytes-requires-2 c κs = search needs
-
 -- the sizes that the code works out, and that its parts lie within the buffers
 w-is : (m : tie.After-bytes2) → m .before .before .before .before .before .width .result ≡ m .before .before .before .before .before .before .before .before .args .s .w
 w-is m = m .before .before .before .before .before .width .ensures
@@ -116,12 +98,6 @@ resize-lines-requires-2 c κs =
     let m = k .before .before .before .before .before .before in
     rw (m .bytes2 .ensures, u-is m, v-is m, h-is m) (cols-lines (m .before .before .before .before .before .before .before .before .pre) (rw (v-is m, h-is m) at (front k .1)))
 
-same-length : tie.Need-same-length
-same-length c = search needs
-
-same-length-2 : tie.Need-same-length-2
-same-length-2 c = search needs
-
 returns : tie.Need-returns
 returns c =
     let two = c .before .before in
@@ -136,12 +112,12 @@ pub resize-level-spec : {M : Type 1} → statement M
 resize-level-spec =
     tie.close
     (tie.spec
-    width-requires
-    height-requires
-    width-requires-2
-    height-requires-2
-    bytes-requires
-    bytes-requires-2
+    (λ c κs. tt)
+    (λ c κs. tt)
+    (λ c κs. tt)
+    (λ c κs. tt)
+    (λ c κs. search needs)
+    (λ c κs. search needs)
     mul-between
     mul-between-2
     rows-of-requires
@@ -156,6 +132,6 @@ resize-level-spec =
     slice-aggregate-resize-lines-4
     mul-resize-lines
     resize-lines-requires-2
-    same-length
-    same-length-2
+    (λ c. search needs)
+    (λ c. search needs)
     returns)

@@ -49,12 +49,6 @@ resize-line-requires c κs =
     let r = room (c .before .before .before) (c .before .before .loop .y) (c .before .loop-test .taken) in
     (p .makes, record { len-low = p .len-low; len-high = p .len-high; src-ends = r .0; dst-ends = omega (arith, r .1) })
 
-add-y : tie.Need-add-y Inv-loop μ-loop
-add-y c = omega arith
-
-loop-less : tie.Need-loop-less Inv-loop μ-loop
-loop-less c = omega arith
-
 loop-again : tie.Need-loop-again Inv-loop μ-loop
 loop-again c =
     let e = c .before .before in
@@ -82,8 +76,8 @@ resize-lines-spec =
     mul-resize-line
     mul-resize-line-2
     resize-line-requires
-    add-y
-    loop-less
+    (λ c. omega arith)
+    (λ c. omega arith)
     loop-again
     same-length
     returns)

@@ -8,9 +8,6 @@ use Rattle.decimate.proofs.Sizes.{out-high, inner-fits}
 use Rattle.decimate.proofs.resize_row.Statement.{statement}
 use Rattle.decimate.proofs.resize_row.Tie as tie
 
-inner-from-requires : tie.Need-inner-from-requires
-inner-from-requires c κs = tt
-
 inner-to-requires : tie.Need-inner-to-requires
 inner-to-requires c κs =
     let r = c .before .before .before .pre .2 in
@@ -64,7 +61,7 @@ pub resize-row-spec : {M : Type 1} → statement M
 resize-row-spec =
     tie.close
     (tie.spec
-    inner-from-requires
+    (λ c κs. tt)
     inner-to-requires
     resize-ends-requires
     resize-inner-requires

@@ -5,15 +5,6 @@ use Rattle.drop_shadow.specs.Shadowed.{shadowed}
 use Rattle.drop_shadow.proofs.apply_drop_shadow.Statement.{statement}
 use Rattle.drop_shadow.proofs.apply_drop_shadow.Tie as tie
 
-copy-bytes-requires : tie.Need-copy-bytes-requires
-copy-bytes-requires c κs = search needs
-
-cast-shadow-requires : tie.Need-cast-shadow-requires
-cast-shadow-requires c κs = search needs
-
-colour-of-requires : tie.Need-colour-of-requires
-colour-of-requires c κs = search needs
-
 write-colored-shadow-requires : tie.Need-write-colored-shadow-requires
 write-colored-shadow-requires c κs =
     let made = c .before .before in
@@ -22,15 +13,6 @@ write-colored-shadow-requires c κs =
     let needs = copied .before .before .before .before .before .before .before .pre in
     rw (made .colour-of .ensures)
     (record { sized = needs .0 .copied .sized; exact = cast .cast-shadow .kept .0 ∙ copied .copy-bytes .kept .0 ∙ needs .0 .copied .exact }, (needs .1, needs .0 .given .colour))
-
-same-length : tie.Need-same-length
-same-length c = search needs
-
-same-length-2 : tie.Need-same-length-2
-same-length-2 c = search needs
-
-same-length-3 : tie.Need-same-length-3
-same-length-3 c = search needs
 
 returns : tie.Need-returns
 unfolding shadowed
@@ -45,11 +27,11 @@ pub apply-drop-shadow-spec : {M : Type 1} → statement M
 apply-drop-shadow-spec =
     tie.close
     (tie.spec
-    copy-bytes-requires
-    cast-shadow-requires
-    colour-of-requires
+    (λ c κs. search needs)
+    (λ c κs. search needs)
+    (λ c κs. search needs)
     write-colored-shadow-requires
-    same-length
-    same-length-2
-    same-length-3
+    (λ c. search needs)
+    (λ c. search needs)
+    (λ c. search needs)
     returns)

@@ -5,19 +5,13 @@ use Rattle.drop_shadow.specs.Outcome.{eitherShort}
 use Rattle.drop_shadow.proofs.either_short.Statement.{statement}
 use Rattle.drop_shadow.proofs.either_short.Tie as tie
 
-too-short-requires : tie.Need-too-short-requires
-too-short-requires c κs = search needs
-
 returns : tie.Need-returns
 unfolding eitherShort
 returns c = rw (sym (c .before .too-short .ensures) ∙ c .if1 .taken)
-
-too-short-requires-2 : tie.Need-too-short-requires-2
-too-short-requires-2 c κs = search needs
 
 returns-2 : tie.Need-returns-2
 unfolding eitherShort
 returns-2 c = rw (sym (c .before .before .too-short .ensures) ∙ c .before .if1 .left) (c .too-short2 .ensures)
 
 pub either-short-spec : {M : Type 1} → statement M
-either-short-spec = tie.close (tie.spec too-short-requires returns too-short-requires-2 returns-2)
+either-short-spec = tie.close (tie.spec (λ c κs. search needs) returns (λ c κs. search needs) returns-2)

@@ -11,9 +11,6 @@ use Rattle.drop_shadow.proofs.Accepted.{accepted}
 use Rattle.drop_shadow.proofs.shadow.Statement.{statement}
 use Rattle.drop_shadow.proofs.shadow.Tie as tie
 
-shadow-refusal-requires : tie.Need-shadow-refusal-requires
-shadow-refusal-requires c κs = search needs
-
 returns : tie.Need-returns
 unfolding shadowOutcome
 returns c =
@@ -31,22 +28,10 @@ fine c =
 full-size-requires : tie.Need-full-size-requires
 full-size-requires c κs = fine c .0
 
-edge-mode-requires : tie.Need-edge-mode-requires
-edge-mode-requires c κs = search needs
-
 shadow-accepted-requires : tie.Need-shadow-accepted-requires
 shadow-accepted-requires c κs =
     let size = c .before .before .before .before in
     rw (size .full-size .ensures) (fine (size .before) .1)
-
-same-length : tie.Need-same-length
-same-length c = search needs
-
-same-length-2 : tie.Need-same-length-2
-same-length-2 c = search needs
-
-same-length-3 : tie.Need-same-length-3
-same-length-3 c = search needs
 
 returns-2 : tie.Need-returns-2
 unfolding shadowOutcome
@@ -61,12 +46,12 @@ pub shadow-spec : {M : Type 1} → statement M
 shadow-spec =
     tie.close
     (tie.spec
-    shadow-refusal-requires
+    (λ c κs. search needs)
     returns
     full-size-requires
-    edge-mode-requires
+    (λ c κs. search needs)
     shadow-accepted-requires
-    same-length
-    same-length-2
-    same-length-3
+    (λ c. search needs)
+    (λ c. search needs)
+    (λ c. search needs)
     returns-2)

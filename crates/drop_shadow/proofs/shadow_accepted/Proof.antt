@@ -1,5 +1,5 @@
 -- The first parts of the work buffers are lent, come back, and are cleared.
-use mathlib.Core.Path.{_≡_, ap, sym, _∙_}
+use mathlib.Core.Path.{sym, _∙_}
 use Prim.Native.Nat.{_≤_}
 use native.Mathlib.Omega.{arith}
 use lib.ListN.{length}
@@ -51,15 +51,6 @@ clear-requires-2 c κs =
     let v = c .before .before .before .before .before .before .before .before .before .before .before in
     comes-back _ (v .apply-drop-shadow .last .1 .1 .1 .0) (k-fits (v .before .before .before .before) .1) (v .apply-drop-shadow .kept .1 .1 .1 .0)
 
-same-length : tie.Need-same-length
-same-length c = search needs
-
-same-length-2 : tie.Need-same-length-2
-same-length-2 c = search needs
-
-same-length-3 : tie.Need-same-length-3
-same-length-3 c = search needs
-
 returns : tie.Need-returns
 returns c =
     let first = c .before .before .before .before .before .before in
@@ -85,7 +76,7 @@ shadow-accepted-spec =
     apply-drop-shadow-requires
     clear-requires
     clear-requires-2
-    same-length
-    same-length-2
-    same-length-3
+    (λ c. search needs)
+    (λ c. search needs)
+    (λ c. search needs)
     returns)

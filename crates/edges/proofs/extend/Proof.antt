@@ -7,23 +7,8 @@ use Rattle.edges.specs.Edges.{place}
 use Rattle.edges.proofs.extend.Statement.{statement}
 use Rattle.edges.proofs.extend.Tie as tie
 
-enum-told : tie.Need-enum-told
-enum-told c = search needs
-
-sub-t7 : tie.Need-sub-t7
-sub-t7 c = search needs
-
-inside-or-requires : tie.Need-inside-or-requires
-inside-or-requires c κs = search needs
-
-enum-told-2 : tie.Need-enum-told-2
-enum-told-2 c = search needs
-
 modulo-requires : tie.Need-modulo-requires
 modulo-requires c κs = (omega arith, omega arith, omega arith, omega arith)
-
-enum-told-3 : tie.Need-enum-told-3
-enum-told-3 c = search needs
 
 mul-modulo : tie.Need-mul-modulo
 mul-modulo c = omega (arith, room-is)
@@ -33,12 +18,6 @@ modulo-requires-2 c κs = (omega arith, omega arith, omega arith, omega arith)
 
 reflected-requires : tie.Need-reflected-requires
 reflected-requires c κs = (rw (c .modulo2 .ensures) (mod-lt _ (omega arith)), omega arith)
-
-enum-told-4 : tie.Need-enum-told-4
-enum-told-4 c = search needs
-
-inside-or-requires-2 : tie.Need-inside-or-requires-2
-inside-or-requires-2 c κs = search needs
 
 returns : tie.Need-returns
 unfolding place
@@ -60,17 +39,17 @@ pub extend-spec : {M : Type 1} → statement M
 extend-spec =
     tie.close
     (tie.spec
-    enum-told
-    sub-t7
-    inside-or-requires
-    enum-told-2
+    (λ c. search needs)
+    (λ c. search needs)
+    (λ c κs. search needs)
+    (λ c. search needs)
     modulo-requires
-    enum-told-3
+    (λ c. search needs)
     mul-modulo
     modulo-requires-2
     reflected-requires
-    enum-told-4
-    inside-or-requires-2
+    (λ c. search needs)
+    (λ c κs. search needs)
     returns
     returns-2
     returns-3

@@ -12,20 +12,11 @@ use Rattle.edges.proofs.modulo.Tie as tie
 product-fits : (c : tie.Start) → c .args .d * (c .args .n - 1) ≤ farthest * (2 * sideRoom)
 product-fits c = mul-le-mul {n₂ = farthest} {m₂ = 2 * sideRoom} (omega arith) (omega arith)
 
-sub-result : tie.Need-sub-result
-sub-result c = search needs
-
 mul-result : tie.Need-mul-result
 mul-result c = omega (arith, room-is, product-fits c)
 
 add-result : tie.Need-add-result
 add-result c = omega (arith, room-is, product-fits c)
 
-rem-result : tie.Need-rem-result
-rem-result c = search needs
-
-returns : tie.Need-returns
-returns c = search needs
-
 pub modulo-spec : {M : Type 1} → statement M
-modulo-spec = tie.close (tie.spec sub-result mul-result add-result rem-result returns)
+modulo-spec = tie.close (tie.spec (λ c. search needs) mul-result add-result (λ c. search needs) (λ c. search needs))

@@ -9,12 +9,6 @@ use Rattle.edges.proofs.reflected.Tie as tie
 mul-t5 : tie.Need-mul-t5
 mul-t5 c = omega (arith, room-is)
 
-sub-t6 : tie.Need-sub-t6
-sub-t6 c = search needs
-
-sub-t7 : tie.Need-sub-t7
-sub-t7 c = search needs
-
 returns : tie.Need-returns
 returns c = let a = c .before .args in simp (lt-ltb (a .m) (a .s) (omega arith))
 
@@ -22,4 +16,4 @@ returns-2 : tie.Need-returns-2
 returns-2 c = let a = c .before .args in simp (le-ltb (a .m) (a .s) (omega arith))
 
 pub reflected-spec : {M : Type 1} → statement M
-reflected-spec = tie.close (tie.spec mul-t5 sub-t6 sub-t7 returns returns-2)
+reflected-spec = tie.close (tie.spec mul-t5 (λ c. search needs) (λ c. search needs) returns returns-2)

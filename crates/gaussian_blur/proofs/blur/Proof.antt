@@ -10,9 +10,6 @@ use borrow.Author.Needs.{needs}
 use Rattle.gaussian_blur.proofs.blur.Statement.{statement}
 use Rattle.gaussian_blur.proofs.blur.Tie as tie
 
-blur-refusal-requires : tie.Need-blur-refusal-requires
-blur-refusal-requires c κs = search needs
-
 returns : tie.Need-returns
 unfolding blurOutcome
 returns c =
@@ -28,17 +25,8 @@ fine c =
 full-size-requires : tie.Need-full-size-requires
 full-size-requires c κs = fine c .0
 
-edge-mode-requires : tie.Need-edge-mode-requires
-edge-mode-requires c κs = search needs
-
 blur-accepted-requires : tie.Need-blur-accepted-requires
 blur-accepted-requires c κs = rw (c .before .before .before .full-size .ensures) (fine (c .before .before .before .before) .1)
-
-same-length : tie.Need-same-length
-same-length c = search needs
-
-same-length-2 : tie.Need-same-length-2
-same-length-2 c = search needs
 
 returns-2 : tie.Need-returns-2
 unfolding blurOutcome
@@ -52,11 +40,11 @@ pub blur-spec : {M : Type 1} → statement M
 blur-spec =
     tie.close
     (tie.spec
-    blur-refusal-requires
+    (λ c κs. search needs)
     returns
     full-size-requires
-    edge-mode-requires
+    (λ c κs. search needs)
     blur-accepted-requires
-    same-length
-    same-length-2
+    (λ c. search needs)
+    (λ c. search needs)
     returns-2)

@@ -1,5 +1,5 @@
 -- The scratch's first part is lent to the blur, comes back, and is cleared.
-use mathlib.Core.Path.{_≡_, ap, ap₂, sym, _∙_}
+use mathlib.Core.Path.{ap, ap₂, sym, _∙_}
 use Prim.Native.Nat.{ℕ, _≤_}
 use native.Mathlib.Omega.{arith}
 use lib.ListN.{length}
@@ -37,12 +37,6 @@ clear-requires c κs =
     let a = b .before .before .before .before .args in
     omega (arith, length-front (a .scratch .now) (v .blur-or-keep .last .1 .0) (b .bytes .result) (v .blur-or-keep .kept .1 .0), k-fits b)
 
-same-length : tie.Need-same-length
-same-length c = search needs
-
-same-length-2 : tie.Need-same-length-2
-same-length-2 c = search needs
-
 returns : tie.Need-returns
 returns c =
     let v = c .before .before .before .before .before .before .before .before in
@@ -62,6 +56,6 @@ blur-accepted-spec =
     slice-aggregate-blur-or-keep
     blur-or-keep-requires
     clear-requires
-    same-length
-    same-length-2
+    (λ c. search needs)
+    (λ c. search needs)
     returns)

@@ -6,17 +6,8 @@ use borrow.Author.Needs.{needs}
 use Rattle.gaussian_blur.proofs.blur_or_keep.Statement.{statement}
 use Rattle.gaussian_blur.proofs.blur_or_keep.Tie as tie
 
-level-zero-requires : tie.Need-level-zero-requires
-level-zero-requires c κs = search needs
-
 apply-blur-requires : tie.Need-apply-blur-requires
 apply-blur-requires c κs = rw (c .level-zero .ensures) (c .before .before .before .before .before .before .before .pre)
-
-same-length : tie.Need-same-length
-same-length c = search needs
-
-same-length-2 : tie.Need-same-length-2
-same-length-2 c = search needs
 
 returns : tie.Need-returns
 unfolding ofBits
@@ -35,4 +26,4 @@ returns-2 c =
 pub blur-or-keep-spec : {M : Type 1} → statement M
 blur-or-keep-spec =
     tie.close
-    (tie.spec level-zero-requires apply-blur-requires same-length same-length-2 returns returns-2)
+    (tie.spec (λ c κs. search needs) apply-blur-requires (λ c. search needs) (λ c. search needs) returns returns-2)

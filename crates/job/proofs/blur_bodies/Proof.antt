@@ -36,12 +36,6 @@ there c = rw (← c .before .loop .inv .0) (c .loop-test .taken)
 blur-body-requires : tie.Need-blur-body-requires Inv-loop μ-loop
 blur-body-requires c κs = let at = c .before .before in turn-ready keeps (at .before .loop .inv .1) (there at)
 
-add-i : tie.Need-add-i Inv-loop μ-loop
-add-i c = search needs
-
-loop-less : tie.Need-loop-less Inv-loop μ-loop
-loop-less c = search needs
-
 loop-again : tie.Need-loop-again Inv-loop μ-loop
 loop-again c =
     let b = c .before .before .before .before in
@@ -67,8 +61,8 @@ blur-bodies-spec =
     table-end-requires
     loop-holds
     blur-body-requires
-    add-i
-    loop-less
+    (λ c. search needs)
+    (λ c. search needs)
     loop-again
     same-length
     same-length-2

@@ -5,18 +5,6 @@ use Rattle.job.proofs.Fixed.{fixed}
 use Rattle.job.proofs.blur_part.Statement.{statement}
 use Rattle.job.proofs.blur_part.Tie as tie
 
-slice-aggregate-blur : tie.Need-slice-aggregate-blur
-slice-aggregate-blur c = search needs
-
-blur-requires : tie.Need-blur-requires
-blur-requires c κs = search needs
-
-same-length : tie.Need-same-length
-same-length c = search needs
-
-same-length-2 : tie.Need-same-length-2
-same-length-2 c = search needs
-
 returns : tie.Need-returns
 unfolding ofBits
 returns c =
@@ -25,4 +13,4 @@ returns c =
 
 pub blur-part-spec : {M : Type 1} → statement M
 blur-part-spec =
-    tie.close (tie.spec slice-aggregate-blur blur-requires same-length same-length-2 returns)
+    tie.close (tie.spec (λ c. search needs) (λ c κs. search needs) (λ c. search needs) (λ c. search needs) returns)

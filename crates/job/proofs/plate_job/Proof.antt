@@ -13,12 +13,6 @@ use Rattle.job.proofs.Settle.{job-broken, job-short, job-done}
 use Rattle.job.proofs.plate_job.Statement.{statement}
 use Rattle.job.proofs.plate_job.Tie as tie
 
-is-plate-requires : tie.Need-is-plate-requires
-is-plate-requires c κs = search needs
-
-same-length : tie.Need-same-length
-same-length c = search needs
-
 returns : tie.Need-returns
 returns c = job-broken _ _ _ (sym (c .before .is-plate .ensures) ∙ not-true _ (c .if1 .taken))
 
@@ -28,9 +22,6 @@ plate c = sym (c .before .is-plate .ensures) ∙ not-false _ (c .if1 .left)
 longest-body-requires : tie.Need-longest-body-requires
 longest-body-requires c κs = plate-tabled _ (plate (c .before))
 
-same-length-2 : tie.Need-same-length-2
-same-length-2 c = search needs
-
 returns-2 : tie.Need-returns-2
 returns-2 c = let b = c .before in job-short _ _ _ (plate (b .before .before)) (rw (← b .longest-body .ensures) (c .if2 .taken))
 
@@ -39,12 +30,6 @@ room c = omega (arith, c .before .longest-body .ensures)
 
 blur-bodies-requires : tie.Need-blur-bodies-requires
 blur-bodies-requires c κs = let e = c .before .before in (plate (e .before .before .before), room e)
-
-same-length-3 : tie.Need-same-length-3
-same-length-3 c = search needs
-
-same-length-4 : tie.Need-same-length-4
-same-length-4 c = search needs
 
 returns-3 : tie.Need-returns-3
 returns-3 c =
@@ -56,13 +41,13 @@ pub plate-job-spec : {M : Type 1} → statement M
 plate-job-spec =
     tie.close
     (tie.spec
-    is-plate-requires
-    same-length
+    (λ c κs. search needs)
+    (λ c. search needs)
     returns
     longest-body-requires
-    same-length-2
+    (λ c. search needs)
     returns-2
     blur-bodies-requires
-    same-length-3
-    same-length-4
+    (λ c. search needs)
+    (λ c. search needs)
     returns-3)

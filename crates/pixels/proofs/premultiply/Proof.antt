@@ -7,12 +7,6 @@ use Rattle.pixels.specs.Channels.{premultiply}
 use Rattle.pixels.proofs.premultiply.Statement.{statement}
 use Rattle.pixels.proofs.premultiply.Tie as tie
 
-wide-requires : tie.Need-wide-requires
-wide-requires c κs = search needs
-
-wide-requires-2 : tie.Need-wide-requires-2
-wide-requires-2 c κs = search needs
-
 fits : (c : tie.After-wide2) → c .before .wide .result * c .wide2 .result ≤ 65025
 fits c = mul-le-mul {n₁ = c .before .wide .result} {m₁ = c .wide2 .result} {n₂ = 255} {m₂ = 255} (omega arith) (omega arith)
 
@@ -27,4 +21,4 @@ unfolding premultiply
 returns c = rw (c .before .wide .ensures, c .wide2 .ensures)
 
 pub premultiply-spec : {M : Type 1} → statement M
-premultiply-spec = tie.close (tie.spec wide-requires wide-requires-2 mul-result cast-result returns)
+premultiply-spec = tie.close (tie.spec (λ c κs. search needs) (λ c κs. search needs) mul-result cast-result returns)

@@ -11,9 +11,6 @@ use Rattle.plate.proofs.Settle.{broken, missing, there}
 use Rattle.plate.proofs.find_picture.Statement.{statement}
 use Rattle.plate.proofs.find_picture.Tie as tie
 
-is-plate-requires : tie.Need-is-plate-requires
-is-plate-requires c κs = search needs
-
 returns : tie.Need-returns
 returns c = broken _ _ (sym (c .before .is-plate .ensures) ∙ not-true _ (c .if1 .taken))
 
@@ -38,20 +35,8 @@ read-entry-requires c κs = (plate-tabled _ (plate (c .before .before)), within 
 obeyed : (c : tie.Else2) → let a = c .before .before .before .before .before .args in Obeyed (a .plate .now) (a .index)
 obeyed c = plate-entry _ (plate (c .before .before)) _ (within c)
 
-cast-full-size : tie.Need-cast-full-size
-cast-full-size c = search needs
-
-cast-full-size-2 : tie.Need-cast-full-size-2
-cast-full-size-2 c = search needs
-
 full-size-requires : tie.Need-full-size-requires
 full-size-requires c κs = let e = c .before .before in rw (e .read-entry .ensures) (obeyed (e .before) .sides)
-
-cast-t8 : tie.Need-cast-t8
-cast-t8 c = search needs
-
-cast-t13 : tie.Need-cast-t13
-cast-t13 c = search needs
 
 returns-3 : tie.Need-returns-3
 returns-3 c =
@@ -64,14 +49,14 @@ pub find-picture-spec : {M : Type 1} → statement M
 find-picture-spec =
     tie.close
     (tie.spec
-    is-plate-requires
+    (λ c κs. search needs)
     returns
     count-requires
     returns-2
     read-entry-requires
-    cast-full-size
-    cast-full-size-2
+    (λ c. search needs)
+    (λ c. search needs)
     full-size-requires
-    cast-t8
-    cast-t13
+    (λ c. search needs)
+    (λ c. search needs)
     returns-3)

@@ -11,12 +11,6 @@ use Rattle.plate.proofs.Settle.{stretch-inside}
 use Rattle.plate.proofs.plate_picture.Statement.{statement}
 use Rattle.plate.proofs.plate_picture.Tie as tie
 
-find-picture-requires : tie.Need-find-picture-requires
-find-picture-requires c κs = search needs
-
-stretch-requires : tie.Need-stretch-requires
-stretch-requires c κs = search needs
-
 answered : (c : tie.After-stretch) → let a = c .before .before .before .args in c .stretch .result ≡ stretchIn (lookedUp (a .plate .now) (a .index) .left)
 answered c = c .stretch .ensures ∙ ap (λ (x : Answer Picture). stretchIn (x .left)) (c .before .find-picture .ensures)
 
@@ -25,12 +19,6 @@ inside c = let a = c .before .before .before .args in rw (answered c) (stretch-i
 
 add-b : tie.Need-add-b
 add-b c = omega (arith, inside (c .before))
-
-sub-result : tie.Need-sub-result
-sub-result c = search needs
-
-part-result-start : tie.Need-part-result-start
-part-result-start c = search needs
 
 part-result-end : tie.Need-part-result-end
 part-result-end c = inside (c .before)
@@ -46,10 +34,10 @@ pub plate-picture-spec : {M : Type 1} → statement M
 plate-picture-spec =
     tie.close
     (tie.spec
-    find-picture-requires
-    stretch-requires
+    (λ c κs. search needs)
+    (λ c κs. search needs)
     add-b
-    sub-result
-    part-result-start
+    (λ c. search needs)
+    (λ c. search needs)
     part-result-end
     returns)

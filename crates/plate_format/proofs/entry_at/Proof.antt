@@ -6,12 +6,6 @@ use Rattle.plate_format.proofs.Table.{place-fits}
 use Rattle.plate_format.proofs.entry_at.Statement.{statement}
 use Rattle.plate_format.proofs.entry_at.Tie as tie
 
-u16-at-requires : tie.Need-u16-at-requires
-u16-at-requires c κs = search needs
-
-entry-size-requires : tie.Need-entry-size-requires
-entry-size-requires c κs = search needs
-
 place : (c : tie.After-entry-size) → c .before .before .before .args .i * c .entry-size .result ≤ 4294967296
 place c = rw (c .entry-size .ensures) (place-fits (c .before .before .before .args .i) (c .before .u16-at .result) (c .before .before .before .pre .1))
 
@@ -26,4 +20,4 @@ returns c = rw (c .entry-size .ensures, c .before .u16-at .ensures)
 
 pub entry-at-spec : {M : Type 1} → statement M
 entry-at-spec =
-    tie.close (tie.spec u16-at-requires entry-size-requires mul-result add-result returns)
+    tie.close (tie.spec (λ c κs. search needs) (λ c κs. search needs) mul-result add-result returns)

@@ -20,26 +20,11 @@ Inv-loop file v n start₀ i₀ start i =
 abbrev μ-loop : tie.MeasureT-loop
 μ-loop file v n start₀ i₀ start i = n - i
 
-u16-at-requires : tie.Need-u16-at-requires Inv-loop μ-loop
-u16-at-requires c κs = search needs
-
-count-requires : tie.Need-count-requires Inv-loop μ-loop
-count-requires c κs = search needs
-
-table-end-requires : tie.Need-table-end-requires Inv-loop μ-loop
-table-end-requires c κs = search needs
-
 loop-holds : tie.Need-loop-holds Inv-loop μ-loop
 unfolding bodyOffset allBelow
 loop-holds c =
     let e = c .table-end .ensures in
     (search needs, e, omega (arith, c .before .before .before .before .pre .inside), refl)
-
-read-entry-requires : tie.Need-read-entry-requires Inv-loop μ-loop
-read-entry-requires c κs = search needs
-
-obeys-requires : tie.Need-obeys-requires Inv-loop μ-loop
-obeys-requires c κs = search needs
 
 -- what was asked of the entry is the rule of entry i
 asked : (c : tie.After-obeys Inv-loop μ-loop) →
@@ -55,18 +40,6 @@ returns c =
     let at = b .before .before .before in
     refuted _
     (λ h. true≢false (sym (filled-is _ h .obeyed (at .loop .i) (omega arith)) ∙ sym (asked b) ∙ not-true _ (c .if1 .taken)))
-
-cast-start : tie.Need-cast-start Inv-loop μ-loop
-cast-start c = search needs
-
-add-start : tie.Need-add-start Inv-loop μ-loop
-add-start c = search needs
-
-add-i : tie.Need-add-i Inv-loop μ-loop
-add-i c = search needs
-
-loop-less : tie.Need-loop-less Inv-loop μ-loop
-loop-less c = search needs
 
 loop-again : tie.Need-loop-again Inv-loop μ-loop
 unfolding bodyOffset allBelow
@@ -89,16 +62,16 @@ filled-spec =
     (tie.spec
     Inv-loop
     μ-loop
-    u16-at-requires
-    count-requires
-    table-end-requires
+    (λ c κs. search needs)
+    (λ c κs. search needs)
+    (λ c κs. search needs)
     loop-holds
-    read-entry-requires
-    obeys-requires
+    (λ c κs. search needs)
+    (λ c κs. search needs)
     returns
-    cast-start
-    add-start
-    add-i
-    loop-less
+    (λ c. search needs)
+    (λ c. search needs)
+    (λ c. search needs)
+    (λ c. search needs)
     loop-again
     returns-2)

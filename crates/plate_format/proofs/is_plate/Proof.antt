@@ -13,27 +13,15 @@ use Rattle.plate_format.proofs.is_plate.Tie as tie
 returns : tie.Need-returns
 returns c = refuted _ (λ h. let z : ⊥ = omega (arith, table-inside _ (rules _ h)) in z)
 
-u16-at-requires : tie.Need-u16-at-requires
-u16-at-requires c κs = search needs
-
-known-requires : tie.Need-known-requires
-known-requires c κs = search needs
-
 returns-2 : tie.Need-returns-2
 returns-2 c =
     refuted _
     (λ h.
     true≢false (sym (rules _ h .version-is) ∙ ap known (sym (c .before .before .u16-at .ensures)) ∙ sym (c .before .known .ensures) ∙ not-true _ (c .if2 .taken)))
 
-count-requires : tie.Need-count-requires
-count-requires c κs = search needs
-
 returns-3 : tie.Need-returns-3
 unfolding maxCount
 returns-3 c = refuted _ (λ h. let z : ⊥ = omega (arith, rules _ h .few, c .before .count .ensures) in z)
-
-largest-whole-requires : tie.Need-largest-whole-requires
-largest-whole-requires c κs = search needs
 
 -- the most bytes that this plate may have
 limit : (c : tie.After-largest-whole) →
@@ -42,9 +30,6 @@ limit c = c .largest-whole .ensures ∙ ap largestWhole (c .before .before .befo
 
 returns-4 : tie.Need-returns-4
 returns-4 c = refuted _ (λ h. let z : ⊥ = omega (arith, rules _ h .whole, limit (c .before)) in z)
-
-entry-at-requires : tie.Need-entry-at-requires
-entry-at-requires c κs = search needs
 
 -- the table's end
 end : (c : tie.After-entry-at) →
@@ -73,14 +58,14 @@ is-plate-spec =
     tie.close
     (tie.spec
     returns
-    u16-at-requires
-    known-requires
+    (λ c κs. search needs)
+    (λ c κs. search needs)
     returns-2
-    count-requires
+    (λ c κs. search needs)
     returns-3
-    largest-whole-requires
+    (λ c κs. search needs)
     returns-4
-    entry-at-requires
+    (λ c κs. search needs)
     returns-5
     filled-requires
     returns-6)

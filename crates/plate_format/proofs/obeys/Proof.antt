@@ -7,15 +7,6 @@ use Rattle.plate_format.proofs.Rules.{sides-are}
 use Rattle.plate_format.proofs.obeys.Statement.{statement}
 use Rattle.plate_format.proofs.obeys.Tie as tie
 
-cast-w : tie.Need-cast-w
-cast-w c = search needs
-
-cast-h : tie.Need-cast-h
-cast-h c = search needs
-
-wrong-sides-requires : tie.Need-wrong-sides-requires
-wrong-sides-requires c κs = search needs
-
 returns : tie.Need-returns
 unfolding obeys
 returns c =
@@ -27,18 +18,9 @@ sides c =
     let a = c .before .before .before .before .args in
     sides-are (a .v) (a .e) ∙ sym (c .before .wrong-sides .ensures) ∙ c .if1 .left
 
-cast-wrong-length : tie.Need-cast-wrong-length
-cast-wrong-length c = search needs
-
-wrong-length-requires : tie.Need-wrong-length-requires
-wrong-length-requires c κs = search needs
-
 returns-2 : tie.Need-returns-2
 unfolding obeys
 returns-2 c = rw (sides (c .before .before .before), sym (c .before .wrong-length .ensures) ∙ c .if2 .taken)
-
-cast-result : tie.Need-cast-result
-cast-result c = search needs
 
 returns-3 : tie.Need-returns-3
 unfolding obeys
@@ -50,12 +32,12 @@ pub obeys-spec : {M : Type 1} → statement M
 obeys-spec =
     tie.close
     (tie.spec
-    cast-w
-    cast-h
-    wrong-sides-requires
+    (λ c. search needs)
+    (λ c. search needs)
+    (λ c κs. search needs)
     returns
-    cast-wrong-length
-    wrong-length-requires
+    (λ c. search needs)
+    (λ c κs. search needs)
     returns-2
-    cast-result
+    (λ c. search needs)
     returns-3)

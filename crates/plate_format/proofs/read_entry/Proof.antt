@@ -8,9 +8,6 @@ use Rattle.plate_format.proofs.Table.{entry-room, entry-inside}
 use Rattle.plate_format.proofs.read_entry.Statement.{statement}
 use Rattle.plate_format.proofs.read_entry.Tie as tie
 
-entry-at-requires : tie.Need-entry-at-requires
-entry-at-requires c κs = search needs
-
 room : (c : tie.After-entry-at) → c .entry-at .result + 12 ≤ length (c .before .before .args .file .now)
 room c =
     let st = c .before .before in
@@ -48,7 +45,7 @@ pub read-entry-spec : {M : Type 1} → statement M
 read-entry-spec =
     tie.close
     (tie.spec
-    entry-at-requires
+    (λ c κs. search needs)
     u16-at-requires
     add-u16-at
     u16-at-requires-2

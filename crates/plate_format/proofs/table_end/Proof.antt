@@ -5,15 +5,9 @@ use Rattle.plate_format.specs.Format.{entryAt, bodyOffset}
 use Rattle.plate_format.proofs.table_end.Statement.{statement}
 use Rattle.plate_format.proofs.table_end.Tie as tie
 
-count-requires : tie.Need-count-requires
-count-requires c κs = search needs
-
-entry-at-requires : tie.Need-entry-at-requires
-entry-at-requires c κs = search needs
-
 returns : tie.Need-returns
 unfolding bodyOffset
 returns c = c .entry-at .ensures ∙ ap (entryAt _) (c .before .count .ensures)
 
 pub table-end-spec : {M : Type 1} → statement M
-table-end-spec = tie.close (tie.spec count-requires entry-at-requires returns)
+table-end-spec = tie.close (tie.spec (λ c κs. search needs) (λ c κs. search needs) returns)

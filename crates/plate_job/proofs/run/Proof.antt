@@ -14,15 +14,6 @@ returns : tie.Need-returns
 unfolding answerTo settled
 returns c = rw (lt-leb (length (c .before .before .before .args .input .now)) longestInput (omega arith))
 
-plate-job-requires : tie.Need-plate-job-requires
-plate-job-requires c κs = search needs
-
-same-length : tie.Need-same-length
-same-length c = search needs
-
-same-length-2 : tie.Need-same-length-2
-same-length-2 c = search needs
-
 returns-2 : tie.Need-returns-2
 unfolding answerTo
 returns-2 c =
@@ -32,4 +23,4 @@ returns-2 c =
     rw (le-leb _ _ (e .if1 .left)) (job-roomy plateBlur (st .args .input .now) (st .args .scratch .now) (omega arith) (b .plate-job .ensures))
 
 pub run-spec : {M : Type 1} → statement M
-run-spec = tie.close (tie.spec returns plate-job-requires same-length same-length-2 returns-2)
+run-spec = tie.close (tie.spec returns (λ c κs. search needs) (λ c. search needs) (λ c. search needs) returns-2)

@@ -37,12 +37,6 @@ add-clear-run c = omega (arith, room c)
 clear-run-requires : tie.Need-clear-run-requires Inv-loop μ-loop
 clear-run-requires c κs = omega (arith, room c)
 
-add-y : tie.Need-add-y Inv-loop μ-loop
-add-y c = omega arith
-
-loop-less : tie.Need-loop-less Inv-loop μ-loop
-loop-less c = omega arith
-
 loop-again : tie.Need-loop-again Inv-loop μ-loop
 loop-again c =
     let at = c .before .before .before .before .before in
@@ -52,9 +46,6 @@ loop-again c =
       c .before .before .clear-run .ensures
           ∙ rw (at .loop .inv .2, add-mul (at .loop .y) 1 (a .w), one-mul (a .w)) (row-turn (a .bytes .now) (a .w) (a .start) (a .n) (at .loop .y) (omega arith)),
     )
-
-same-length : tie.Need-same-length Inv-loop μ-loop
-same-length c = omega arith
 
 returns : tie.Need-returns Inv-loop μ-loop
 unfolding columnsZeroed
@@ -74,8 +65,8 @@ clear-columns-spec =
     mul-clear-run
     add-clear-run
     clear-run-requires
-    add-y
-    loop-less
+    (λ c. omega arith)
+    (λ c. omega arith)
     loop-again
-    same-length
+    (λ c. omega arith)
     returns)

@@ -27,12 +27,6 @@ add-t12 c = omega (arith, room (c .before .before .before .before))
 slide-requires : tie.Need-slide-requires
 slide-requires c κs = let r = room (c .before .before .before .before) in (omega arith, omega arith)
 
-clear-exposed-requires : tie.Need-clear-exposed-requires
-clear-exposed-requires c κs = search needs
-
-same-length : tie.Need-same-length
-same-length c = search needs
-
 returns : tie.Need-returns
 returns c =
     let s = c .before .before .before .before .before .before in
@@ -51,6 +45,6 @@ move-flat-spec =
     mul-t11
     add-t12
     slide-requires
-    clear-exposed-requires
-    same-length
+    (λ c κs. search needs)
+    (λ c. search needs)
     returns)

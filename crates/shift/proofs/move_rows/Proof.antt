@@ -14,17 +14,8 @@ Inv-loop bytes₀ w h dx dy down up kept k₀ bytes k = (k ≤ staying dy h) × 
 abbrev μ-loop : tie.MeasureT-loop
 μ-loop bytes₀ w h dx dy down up kept k₀ bytes k = kept - k
 
-add-kept : tie.Need-add-kept Inv-loop μ-loop
-add-kept c = omega arith
-
-sub-kept : tie.Need-sub-kept Inv-loop μ-loop
-sub-kept c = omega arith
-
 loop-holds : tie.Need-loop-holds Inv-loop μ-loop
 loop-holds c = let a = c .before .args in (omega arith, none-turned (along (a .dx)) (a .dy) (a .w) (a .h) (a .bytes .now))
-
-turn-row-requires : tie.Need-turn-row-requires Inv-loop μ-loop
-turn-row-requires c κs = omega arith
 
 -- the row that is moved, and the one it becomes, lie inside
 room : (c : tie.After-turn-row Inv-loop μ-loop) →
@@ -51,12 +42,6 @@ mul-move-run-2 c = omega (arith, room (c .before))
 
 move-run-requires : tie.Need-move-run-requires Inv-loop μ-loop
 move-run-requires c κs = let f = room (c .before) in (omega arith, omega arith, c .before .before .before .before .before .pre .1, omega arith)
-
-add-k : tie.Need-add-k Inv-loop μ-loop
-add-k c = omega arith
-
-loop-less : tie.Need-loop-less Inv-loop μ-loop
-loop-less c = omega arith
 
 loop-again : tie.Need-loop-again Inv-loop μ-loop
 loop-again c =
@@ -94,9 +79,6 @@ mul-clear-run-3 c = omega (arith, ends (c .before .before .before .before .befor
 clear-run-requires-2 : tie.Need-clear-run-requires-2 Inv-loop μ-loop
 clear-run-requires-2 c κs = omega (arith, ends (c .before .before .before .before .before))
 
-same-length : tie.Need-same-length Inv-loop μ-loop
-same-length c = omega arith
-
 returns : tie.Need-returns Inv-loop μ-loop
 returns c =
     let last = c .before .before in
@@ -115,17 +97,17 @@ move-rows-spec =
     (tie.spec
     Inv-loop
     μ-loop
-    add-kept
-    sub-kept
+    (λ c. omega arith)
+    (λ c. omega arith)
     loop-holds
-    turn-row-requires
+    (λ c κs. omega arith)
     add-move-run
     mul-move-run
     add-move-run-2
     mul-move-run-2
     move-run-requires
-    add-k
-    loop-less
+    (λ c. omega arith)
+    (λ c. omega arith)
     loop-again
     mul-clear-run
     clear-run-requires
@@ -133,5 +115,5 @@ move-rows-spec =
     mul-clear-run-2
     mul-clear-run-3
     clear-run-requires-2
-    same-length
+    (λ c. omega arith)
     returns)

@@ -4,17 +4,11 @@ use borrow.Author.Needs.{needs}
 use Rattle.shift.proofs.moved_out.Statement.{statement}
 use Rattle.shift.proofs.moved_out.Tie as tie
 
-add-if1 : tie.Need-add-if1
-add-if1 c = search needs
-
 returns : tie.Need-returns
 returns c = rw (le-leb _ _ (c .if1 .taken))
-
-add-result : tie.Need-add-result
-add-result c = search needs
 
 returns-2 : tie.Need-returns-2
 returns-2 c = rw (lt-leb _ _ (c .before .if1 .left))
 
 pub moved-out-spec : {M : Type 1} → statement M
-moved-out-spec = tie.close (tie.spec add-if1 returns add-result returns-2)
+moved-out-spec = tie.close (tie.spec (λ c. search needs) returns (λ c. search needs) returns-2)

@@ -1,5 +1,5 @@
 -- A picture is a plane of bytes, four to a pixel, and an offset held to the side moves it as the offset does.
-use mathlib.Core.Path.{_≡_, ap, _∙_}
+use mathlib.Core.Path.{_≡_, ap}
 use Prim.Native.Nat.{_≤_}
 use native.Mathlib.Omega.{arith}
 use borrow.Author.Needs.{needs}
@@ -11,12 +11,6 @@ use Rattle.shift.proofs.Pixels.{plane-length, picture-moved}
 use Rattle.shift.proofs.Rounded.{one-way, both-finite, rounded-held}
 use Rattle.shift.proofs.offset_pixels.Statement.{statement}
 use Rattle.shift.proofs.offset_pixels.Tie as tie
-
-width-requires : tie.Need-width-requires
-width-requires c κs = search needs
-
-height-requires : tie.Need-height-requires
-height-requires c κs = search needs
 
 abbrev start : tie.After-height → tie.Start
 start c = c .before .before .before
@@ -64,9 +58,6 @@ move-plane-requires c κs =
       rw (down r) (omega (arith, one-way (a .dy))),
     )
 
-same-length : tie.Need-same-length
-same-length c = search needs
-
 returns : tie.Need-returns
 returns c =
     let r = c .before .before .before .before .before .before in
@@ -79,13 +70,13 @@ pub offset-pixels-spec : {M : Type 1} → statement M
 offset-pixels-spec =
     tie.close
     (tie.spec
-    width-requires
-    height-requires
+    (λ c κs. search needs)
+    (λ c κs. search needs)
     round-offset-requires
     round-offset-requires-2
     mul-move-plane
     mul-t13
     mul-t14
     move-plane-requires
-    same-length
+    (λ c. search needs)
     returns)

@@ -4,9 +4,6 @@ use Rattle.shift.proofs.Entry.{call-refused, sides-passed, call-ready, 
 use Rattle.shift.proofs.shift.Statement.{statement}
 use Rattle.shift.proofs.shift.Tie as tie
 
-shift-refusal-requires : tie.Need-shift-refusal-requires
-shift-refusal-requires c κs = search needs
-
 returns : tie.Need-returns
 returns c =
     let r = c .before in
@@ -25,9 +22,6 @@ offset-pixels-requires c κs =
     let a = r .before .before .args in
     call-ready (a .picture .now) (a .w) (a .h) (a .dx) (a .dy) (r .shift-refusal .result) (r .shift-refusal .ensures) (c .before .before .if1 .left) (c .full-size .result) (c .full-size .ensures)
 
-same-length : tie.Need-same-length
-same-length c = search needs
-
 returns-2 : tie.Need-returns-2
 returns-2 c =
     let f = c .before .before .before in
@@ -39,9 +33,9 @@ pub shift-spec : {M : Type 1} → statement M
 shift-spec =
     tie.close
     (tie.spec
-    shift-refusal-requires
+    (λ c κs. search needs)
     returns
     full-size-requires
     offset-pixels-requires
-    same-length
+    (λ c. search needs)
     returns-2)

@@ -8,15 +8,6 @@ use borrow.Author.Needs.{needs}
 use Rattle.shift.proofs.slide.Statement.{statement}
 use Rattle.shift.proofs.slide.Tie as tie
 
-net-requires : tie.Need-net-requires
-net-requires c κs = search needs
-
-move-run-requires : tie.Need-move-run-requires
-move-run-requires c κs = search needs
-
-same-length : tie.Need-same-length
-same-length c = search needs
-
 returns : tie.Need-returns
 returns c =
     let at = c .before .before .before in
@@ -25,4 +16,4 @@ returns c =
     rw (c .before .before .move-run .ensures) (run-all (along d) (a .bytes .now) ∙ slid-same (along d) (along (a .d)) (a .bytes .now) (omega arith))
 
 pub slide-spec : {M : Type 1} → statement M
-slide-spec = tie.close (tie.spec net-requires move-run-requires same-length returns)
+slide-spec = tie.close (tie.spec (λ c κs. search needs) (λ c κs. search needs) (λ c. search needs) returns)

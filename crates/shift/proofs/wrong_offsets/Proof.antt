@@ -6,19 +6,13 @@ use Rattle.shift.specs.Outcome.{wrongOffsets}
 use Rattle.shift.proofs.wrong_offsets.Statement.{statement}
 use Rattle.shift.proofs.wrong_offsets.Tie as tie
 
-is-finite-requires : tie.Need-is-finite-requires
-is-finite-requires c κs = search needs
-
 returns : tie.Need-returns
 unfolding wrongOffsets
 returns c = rw (ap not (sym (c .before .is-finite .ensures)) ∙ c .if1 .taken)
-
-is-finite-requires-2 : tie.Need-is-finite-requires-2
-is-finite-requires-2 c κs = search needs
 
 returns-2 : tie.Need-returns-2
 unfolding wrongOffsets
 returns-2 c = rw (ap not (sym (c .before .before .is-finite .ensures)) ∙ c .before .if1 .left) (ap not (c .is-finite2 .ensures))
 
 pub wrong-offsets-spec : {M : Type 1} → statement M
-wrong-offsets-spec = tie.close (tie.spec is-finite-requires returns is-finite-requires-2 returns-2)
+wrong-offsets-spec = tie.close (tie.spec (λ c κs. search needs) returns (λ c κs. search needs) returns-2)

@@ -19,18 +19,6 @@ loop-holds : tie.Need-loop-holds Inv-loop μ-loop
 unfolding momentOf
 loop-holds c = (omega arith, omega arith)
 
-distance-requires : tie.Need-distance-requires Inv-loop μ-loop
-distance-requires c κs = tt
-
-mul-numerator : tie.Need-mul-numerator Inv-loop μ-loop
-mul-numerator c = omega arith
-
-shared-slice-read-numerator : tie.Need-shared-slice-read-numerator Inv-loop μ-loop
-shared-slice-read-numerator c = omega arith
-
-numerator-requires : tie.Need-numerator-requires Inv-loop μ-loop
-numerator-requires c κs = tt
-
 -- this tap is one more of the whole
 turn : (c : tie.After-numerator Inv-loop μ-loop) →
     let d = c .before .before .distance .result in
@@ -60,12 +48,6 @@ mul-sum-2 c = omega (arith, turn c)
 add-sum : tie.Need-add-sum Inv-loop μ-loop
 add-sum c = omega (arith, turn c)
 
-add-j : tie.Need-add-j Inv-loop μ-loop
-add-j c = omega arith
-
-loop-less : tie.Need-loop-less Inv-loop μ-loop
-loop-less c = omega arith
-
 loop-again : tie.Need-loop-again Inv-loop μ-loop
 loop-again c = (omega arith, turn c .0)
 
@@ -83,14 +65,14 @@ moment-spec =
     Inv-loop
     μ-loop
     loop-holds
-    distance-requires
-    mul-numerator
-    shared-slice-read-numerator
-    numerator-requires
+    (λ c κs. tt)
+    (λ c. omega arith)
+    (λ c. omega arith)
+    (λ c κs. tt)
     mul-sum
     mul-sum-2
     add-sum
-    add-j
-    loop-less
+    (λ c. omega arith)
+    (λ c. omega arith)
     loop-again
     returns)

@@ -6,18 +6,6 @@ use Rattle.binary32.proofs.Grid.{answered-on, answered-off}
 use Rattle.spread.proofs.numerator.Statement.{statement}
 use Rattle.spread.proofs.numerator.Tie as tie
 
-numerator-of-requires : tie.Need-numerator-of-requires
-numerator-of-requires c κs = search needs
-
-enum-known-m : tie.Need-enum-known-m
-enum-known-m c = search needs
-
-cast-result : tie.Need-cast-result
-cast-result c = search needs
-
-enum-told : tie.Need-enum-told
-enum-told c = search needs
-
 returns : tie.Need-returns
 returns c = answered-on (c .before .before .before .before .args .x) _ (sym (c .before .m .given .1) ∙ c .before .before .before .numerator-of .ensures) .1
 
@@ -27,4 +15,4 @@ returns-2 c = rw (answered-off (c .before .before .before .args .x) (sym (c .enu
 
 pub numerator-spec : {M : Type 1} → statement M
 numerator-spec =
-    tie.close (tie.spec numerator-of-requires enum-known-m cast-result enum-told returns returns-2)
+    tie.close (tie.spec (λ c κs. search needs) (λ c. search needs) (λ c. search needs) (λ c. search needs) returns returns-2)

@@ -12,15 +12,9 @@ use borrow.Author.Needs.{needs}
 use Rattle.spread.proofs.report.Statement.{statement}
 use Rattle.spread.proofs.report.Tie as tie
 
-wrong-taps-requires : tie.Need-wrong-taps-requires
-wrong-taps-requires c κs = search needs
-
 returns : tie.Need-returns
 unfolding reported settled firstOf firstElse
 returns c = rw (sym (c .before .wrong-taps .ensures) ∙ c .if1 .taken)
-
-too-deep-requires : tie.Need-too-deep-requires
-too-deep-requires c κs = search needs
 
 -- past the first test, the second and the third
 few : (c : tie.Else1) → wrongTaps (length (c .before .before .before .args .weights .now)) ≡ false
@@ -35,9 +29,6 @@ on-grid c = sym (c .before .off-grid .ensures) ∙ c .if3 .left
 returns-2 : tie.Need-returns-2
 unfolding reported settled firstOf firstElse
 returns-2 c = rw (few (c .before .before), sym (c .before .too-deep .ensures) ∙ c .if2 .taken)
-
-off-grid-requires : tie.Need-off-grid-requires
-off-grid-requires c κs = search needs
 
 returns-3 : tie.Need-returns-3
 unfolding reported settled firstOf firstElse
@@ -56,11 +47,11 @@ pub report-spec : {M : Type 1} → statement M
 report-spec =
     tie.close
     (tie.spec
-    wrong-taps-requires
+    (λ c κs. search needs)
     returns
-    too-deep-requires
+    (λ c κs. search needs)
     returns-2
-    off-grid-requires
+    (λ c κs. search needs)
     returns-3
     spread-of-requires
     returns-4)

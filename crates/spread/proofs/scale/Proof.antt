@@ -8,9 +8,6 @@ use Rattle.spread.proofs.scale.Tie as tie
 mul-result : tie.Need-mul-result
 mul-result c = omega (arith, c .pre, depth-fits)
 
-cast-result : tie.Need-cast-result
-cast-result c = search needs
-
 shl-result : tie.Need-shl-result
 shl-result c = omega (arith, c .pre, depth-fits)
 
@@ -18,4 +15,4 @@ returns : tie.Need-returns
 returns c = shifted (c .args .n) (c .pre)
 
 pub scale-spec : {M : Type 1} → statement M
-scale-spec = tie.close (tie.spec mul-result cast-result shl-result returns)
+scale-spec = tie.close (tie.spec mul-result (λ c. search needs) shl-result returns)

@@ -8,12 +8,6 @@ use Rattle.spread.proofs.Scales.{scaled-fits, term-fits}
 use Rattle.spread.proofs.spread_of.Statement.{statement}
 use Rattle.spread.proofs.spread_of.Tie as tie
 
-scale-requires : tie.Need-scale-requires
-scale-requires c κs = search needs
-
-moment-requires : tie.Need-moment-requires
-moment-requires c κs = search needs
-
 product : (c : tie.After-moment) → c .before .scale .result * c .moment .result ≤ 9223372036854775808
 product c =
     let st = c .before .before .before in
@@ -21,9 +15,6 @@ product c =
 
 mul-t5 : tie.Need-mul-t5
 mul-t5 c = omega (arith, product c)
-
-decimation-term-requires : tie.Need-decimation-term-requires
-decimation-term-requires c κs = search needs
 
 add-t7 : tie.Need-add-t7
 add-t7 c =
@@ -37,4 +28,4 @@ returns c = rw (c .before .before .scale .ensures, c .before .moment .ensures, c
 pub spread-of-spec : {M : Type 1} → statement M
 spread-of-spec =
     tie.close
-    (tie.spec scale-requires moment-requires mul-t5 decimation-term-requires add-t7 returns)
+    (tie.spec (λ c κs. search needs) (λ c κs. search needs) mul-t5 (λ c κs. search needs) add-t7 returns)

@@ -5,21 +5,6 @@ use borrow.Author.Needs.{needs}
 use Rattle.corbelrush.proofs.grades.corbelrush_check.Statement.{statement}
 use Rattle.corbelrush.proofs.grades.corbelrush_check.Tie as tie
 
-check-requires : tie.Need-check-requires
-check-requires c κs = search needs
-
-enum-known-r : tie.Need-enum-known-r
-enum-known-r c = search needs
-
-number-requires : tie.Need-number-requires
-number-requires c κs = search needs
-
-enum-told : tie.Need-enum-told
-enum-told c = search needs
-
-enum-known-p : tie.Need-enum-known-p
-enum-known-p c = search needs
-
 returns : tie.Need-returns
 returns c =
     let e = c .before .before .before .before in
@@ -39,11 +24,11 @@ pub corbelrush-check-spec : {M : Type 1} → statement M
 corbelrush-check-spec =
     tie.close
     (tie.spec
-    check-requires
-    enum-known-r
-    number-requires
-    enum-told
-    enum-known-p
+    (λ c κs. search needs)
+    (λ c. search needs)
+    (λ c κs. search needs)
+    (λ c. search needs)
+    (λ c. search needs)
     returns
     returns-2
     returns-3)

@@ -7,12 +7,6 @@ use borrow.Author.Needs.{needs}
 use Rattle.corbelrush.proofs.grades.corbelrush_sample.Statement.{statement}
 use Rattle.corbelrush.proofs.grades.corbelrush_sample.Tie as tie
 
-sample-at-requires : tie.Need-sample-at-requires
-sample-at-requires c κs = search needs
-
-pack-requires : tie.Need-pack-requires
-pack-requires c κs = search needs
-
 returns : tie.Need-returns
 returns c =
     let st = c .before .before .before in
@@ -20,4 +14,4 @@ returns c =
     c .pack .ensures ∙ ap packed (rw (toZ-ofZ w32 (a .x) (st .fits .x), toZ-ofZ w32 (a .y) (st .fits .y)) at (c .before .sample-at .ensures))
 
 pub corbelrush-sample-spec : {M : Type 1} → statement M
-corbelrush-sample-spec = tie.close (tie.spec sample-at-requires pack-requires returns)
+corbelrush-sample-spec = tie.close (tie.spec (λ c κs. search needs) (λ c κs. search needs) returns)

@@ -3,18 +3,6 @@ use borrow.Author.Needs.{needs}
 use Rattle.corbelrush.proofs.grades.corbelrush_spread.Statement.{statement}
 use Rattle.corbelrush.proofs.grades.corbelrush_spread.Tie as tie
 
-report-requires : tie.Need-report-requires
-report-requires c κs = search needs
-
-enum-known-r : tie.Need-enum-known-r
-enum-known-r c = search needs
-
-number-requires : tie.Need-number-requires
-number-requires c κs = search needs
-
-enum-known-s : tie.Need-enum-known-s
-enum-known-s c = search needs
-
 returns : tie.Need-returns
 returns c =
     let e = c .before .before .before .before in
@@ -28,4 +16,4 @@ returns-2 c =
 pub corbelrush-spread-spec : {M : Type 1} → statement M
 corbelrush-spread-spec =
     tie.close
-    (tie.spec report-requires enum-known-r number-requires enum-known-s returns returns-2)
+    (tie.spec (λ c κs. search needs) (λ c. search needs) (λ c κs. search needs) (λ c. search needs) returns returns-2)

@@ -9,21 +9,6 @@ use borrow.Author.Needs.{needs}
 use Rattle.corbelrush.proofs.plates.corbelrush_plate_picture.Statement.{statement}
 use Rattle.corbelrush.proofs.plates.corbelrush_plate_picture.Tie as tie
 
-find-picture-requires : tie.Need-find-picture-requires
-find-picture-requires c κs = search needs
-
-enum-told : tie.Need-enum-told
-enum-told c = search needs
-
-number-requires : tie.Need-number-requires
-number-requires c κs = search needs
-
-enum-known-found : tie.Need-enum-known-found
-enum-known-found c = search needs
-
-width-requires : tie.Need-width-requires
-width-requires c κs = search needs
-
 -- what was found
 found : (c : tie.After-width) →
     let f = c .before .before in
@@ -35,9 +20,6 @@ found c = let f = c .before .before in rw (f .found .given .1) at (f .before .be
 
 cast-w : tie.Need-cast-w
 cast-w c = omega (arith, c .width .ensures, sides-fit _ _ (found c) .0)
-
-height-requires : tie.Need-height-requires
-height-requires c κs = search needs
 
 cast-h : tie.Need-cast-h
 cast-h c = omega (arith, c .height .ensures, sides-fit _ _ (found (c .before)) .1)
@@ -54,13 +36,13 @@ pub corbelrush-plate-picture-spec : {M : Type 1} → statement M
 corbelrush-plate-picture-spec =
     tie.close
     (tie.spec
-    find-picture-requires
-    enum-told
-    number-requires
-    enum-known-found
-    width-requires
+    (λ c κs. search needs)
+    (λ c. search needs)
+    (λ c κs. search needs)
+    (λ c. search needs)
+    (λ c κs. search needs)
     cast-w
-    height-requires
+    (λ c κs. search needs)
     cast-h
     returns
     returns-2)

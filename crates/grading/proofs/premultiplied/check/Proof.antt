@@ -10,15 +10,9 @@ use Rattle.picture.proofs.Sizes.{whole}
 use Rattle.grading.proofs.premultiplied.check.Statement.{statement}
 use Rattle.grading.proofs.premultiplied.check.Tie as tie
 
-wrong-sides-requires : tie.Need-wrong-sides-requires
-wrong-sides-requires c κs = search needs
-
 returns : tie.Need-returns
 unfolding checked settled firstOf firstElse
 returns c = rw (sym (c .before .wrong-sides .ensures) ∙ c .if1 .taken)
-
-wrong-length-requires : tie.Need-wrong-length-requires
-wrong-length-requires c κs = search needs
 
 -- past both tests
 sides : (c : tie.Else1) → let a = c .before .before .before .args in wrongSides (a .w) (a .h) ≡ false
@@ -44,4 +38,4 @@ returns-3 c = rw (sides (c .before .before .before .before), exact (c .before .b
 pub check-spec : {M : Type 1} → statement M
 check-spec =
     tie.close
-    (tie.spec wrong-sides-requires returns wrong-length-requires returns-2 full-size-requires scan-requires returns-3)
+    (tie.spec (λ c κs. search needs) returns (λ c κs. search needs) returns-2 full-size-requires scan-requires returns-3)

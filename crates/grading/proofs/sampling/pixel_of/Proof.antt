@@ -1,5 +1,5 @@
 -- Each way out is one case of the definition.
-use mathlib.Core.Path.{_≡_, _∙_, ap}
+use mathlib.Core.Path.{_∙_, ap}
 use Prim.Native.Nat.{ℕ, _+_, _*_, _≤_}
 use native.Mathlib.Omega.{arith}
 use lib.ListN.{length}
@@ -20,7 +20,7 @@ module _ (c : tie.After-width) where
   held =
       let st = c .before .before .before .before .before .before .before .before in
       let h : 4 * (y * st .args .size .w + x) + 4 ≤ length (st .args .picture .now) =
-          rw (c .before .before .before .before .before .column .given .1, c .before .before .row .given .1) at (st .pre) in
+      rw (c .before .before .before .before .before .column .given .1, c .before .before .row .given .1) at (st .pre) in
       omega (arith, h, ap (λ (w : ℕ). y * w) (c .width .ensures))
 
 returns-3 : tie.Need-returns-3

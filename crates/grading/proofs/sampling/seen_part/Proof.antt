@@ -4,12 +4,6 @@ use Rattle.grading.proofs.Accepted.{refused, accepted}
 use Rattle.grading.proofs.sampling.seen_part.Statement.{statement}
 use Rattle.grading.proofs.sampling.seen_part.Tie as tie
 
-view-refusal-requires : tie.Need-view-refusal-requires
-view-refusal-requires c κs = search needs
-
-slice-aggregate-result : tie.Need-slice-aggregate-result
-slice-aggregate-result c = search needs
-
 returns : tie.Need-returns
 returns c = rw (refused _ _ _ _ (c .before .before .view-refusal .ensures) (c .before .if1 .taken))
 
@@ -18,4 +12,4 @@ returns-2 c = rw (accepted _ _ _ _ (c .before .view-refusal .ensures) (c .if1 .l
 
 pub seen-part-spec : {M : Type 1} → statement M
 seen-part-spec =
-    tie.close (tie.spec view-refusal-requires slice-aggregate-result returns returns-2)
+    tie.close (tie.spec (λ c κs. search needs) (λ c. search needs) returns returns-2)

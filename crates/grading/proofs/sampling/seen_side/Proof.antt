@@ -4,9 +4,6 @@ use Rattle.grading.proofs.Accepted.{refused, accepted}
 use Rattle.grading.proofs.sampling.seen_side.Statement.{statement}
 use Rattle.grading.proofs.sampling.seen_side.Tie as tie
 
-view-refusal-requires : tie.Need-view-refusal-requires
-view-refusal-requires c κs = search needs
-
 returns : tie.Need-returns
 returns c = rw (refused _ _ _ _ (c .before .view-refusal .ensures) (c .if1 .taken))
 
@@ -14,4 +11,4 @@ returns-2 : tie.Need-returns-2
 returns-2 c = rw (accepted _ _ _ _ (c .before .view-refusal .ensures) (c .if1 .left))
 
 pub seen-side-spec : {M : Type 1} → statement M
-seen-side-spec = tie.close (tie.spec view-refusal-requires returns returns-2)
+seen-side-spec = tie.close (tie.spec (λ c κs. search needs) returns returns-2)

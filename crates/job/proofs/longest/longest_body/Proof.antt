@@ -14,27 +14,9 @@ Inv-loop plate n longest₀ i₀ longest i = (i ≤ n) × (longest ≡ longestBe
 abbrev μ-loop : tie.MeasureT-loop
 μ-loop plate n longest₀ i₀ longest i = n - i
 
-count-requires : tie.Need-count-requires Inv-loop μ-loop
-count-requires c κs = search needs
-
 loop-holds : tie.Need-loop-holds Inv-loop μ-loop
 unfolding longestBelow
 loop-holds c = (search needs, refl)
-
-read-entry-requires : tie.Need-read-entry-requires Inv-loop μ-loop
-read-entry-requires c κs = search needs
-
-cast-greatest : tie.Need-cast-greatest Inv-loop μ-loop
-cast-greatest c = search needs
-
-greatest-requires : tie.Need-greatest-requires Inv-loop μ-loop
-greatest-requires c κs = search needs
-
-add-i : tie.Need-add-i Inv-loop μ-loop
-add-i c = search needs
-
-loop-less : tie.Need-loop-less Inv-loop μ-loop
-loop-less c = search needs
 
 loop-again : tie.Need-loop-again Inv-loop μ-loop
 unfolding longestBelow
@@ -53,12 +35,12 @@ longest-body-spec =
     (tie.spec
     Inv-loop
     μ-loop
-    count-requires
+    (λ c κs. search needs)
     loop-holds
-    read-entry-requires
-    cast-greatest
-    greatest-requires
-    add-i
-    loop-less
+    (λ c κs. search needs)
+    (λ c. search needs)
+    (λ c κs. search needs)
+    (λ c. search needs)
+    (λ c. search needs)
     loop-again
     returns)

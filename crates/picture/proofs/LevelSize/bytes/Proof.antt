@@ -11,8 +11,5 @@ mul-result c = omega (arith, area (c .before .pre))
 mul-result-2 : tie.Need-mul-result-2
 mul-result-2 c = omega (arith, area (c .before .pre))
 
-returns : tie.Need-returns
-returns c = search needs
-
 pub bytes-spec : {M : Type 1} → statement M
-bytes-spec = tie.close (tie.spec mul-result mul-result-2 returns)
+bytes-spec = tie.close (tie.spec mul-result mul-result-2 (λ c. search needs))

@@ -21,24 +21,6 @@ loop-holds c =
     let old = a .bytes .now in
     (omega arith, refl, from-none old (placedAt (a .n) (a .to) (lineFrom (a .from) old) old) (a .to + a .n) (λ j l. placed-past (a .n) (a .to) (lineFrom (a .from) old) old j l))
 
-sub-i : tie.Need-sub-i Inv-loop μ-loop
-sub-i c = omega arith
-
-add-bytes : tie.Need-add-bytes Inv-loop μ-loop
-add-bytes c = omega arith
-
-slice-read-bytes : tie.Need-slice-read-bytes Inv-loop μ-loop
-slice-read-bytes c = omega arith
-
-add-bytes-2 : tie.Need-add-bytes-2 Inv-loop μ-loop
-add-bytes-2 c = omega arith
-
-slice-write-bytes : tie.Need-slice-write-bytes Inv-loop μ-loop
-slice-write-bytes c = omega arith
-
-loop-less : tie.Need-loop-less Inv-loop μ-loop
-loop-less c = omega arith
-
 loop-again : tie.Need-loop-again Inv-loop μ-loop
 loop-again c =
     let at = c .before .before in
@@ -49,9 +31,6 @@ loop-again c =
       simp length-set (omega arith),
       turn-down old (placedAt (a .n) (a .to) (lineFrom (a .from) old) old) (at .loop .bytes) (a .from + i) (a .to + i) (sym (placed-inside (a .n) (a .to) (lineFrom (a .from) old) old (a .to + i) i refl (omega arith))) (a .to + at .loop .i) (omega arith) (at .loop .inv .2) (omega arith) (omega arith),
     )
-
-same-length : tie.Need-same-length Inv-loop μ-loop
-same-length c = omega arith
 
 returns : tie.Need-returns Inv-loop μ-loop
 unfolding placed
@@ -68,12 +47,12 @@ copy-forward-spec =
     Inv-loop
     μ-loop
     loop-holds
-    sub-i
-    add-bytes
-    slice-read-bytes
-    add-bytes-2
-    slice-write-bytes
-    loop-less
+    (λ c. omega arith)
+    (λ c. omega arith)
+    (λ c. omega arith)
+    (λ c. omega arith)
+    (λ c. omega arith)
+    (λ c. omega arith)
     loop-again
-    same-length
+    (λ c. omega arith)
     returns)

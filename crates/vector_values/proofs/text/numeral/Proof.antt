@@ -1,10 +1,10 @@
 -- What was read and what is left make the whole number.
-use mathlib.Core.Path.{_≡_, _∙_, refl, sym}
-use Prim.Native.Nat.{_+_, _*_, _-_, _^_, _≤_}
+use mathlib.Core.Path.{_≡_, _∙_, refl}
+use Prim.Native.Nat.{_+_, _*_, _-_}
 use native.Mathlib.Omega.{arith}
 use borrow.Author.Needs.{needs}
 use lib.ListN.{length, drop}
-use Rattle.vector_values.specs.Numerals.{digitOf, valueOn}
+use Rattle.vector_values.specs.Numerals.{valueOn}
 use Rattle.vector_values.proofs.Numerals.{past-value, past-digits, value-more, value-stops, digits-more, digits-stop, value-grows, Read, stopped, too-large}
 use Rattle.vector_values.proofs.text.numeral.Statement.{statement}
 use Rattle.vector_values.proofs.text.numeral.Tie as tie

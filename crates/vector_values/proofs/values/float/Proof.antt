@@ -1,6 +1,5 @@
 -- A NaN's pattern makes the NaN, and every other its value.
-use mathlib.Core.Path.{_∙_, ap, sym}
-use native.Mathlib.Omega.{arith}
+use mathlib.Core.Path.{_∙_, ap}
 use borrow.Author.Needs.{needs}
 use lib.Ieee.{binary32, ofBits}
 use Rattle.vector_values.proofs.Patterns.{zero-over-zero, is-nan, no-nan}

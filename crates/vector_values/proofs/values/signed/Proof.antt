@@ -1,12 +1,12 @@
 -- The upper half of the numbers stands for the negative ones.
-use mathlib.Core.Path.{_≡_, _∙_, ap, sym}
-use Prim.Native.Nat.{_-_, suc}
+use mathlib.Core.Path.{_≡_, _∙_, ap}
+use Prim.Native.Nat.{_-_}
 use native.Mathlib.Omega.{arith}
 use borrow.Author.Needs.{needs}
 use borrow.Author.Tests.{lt-ltb, le-ltb}
 use lib.IntN.{negsuc, _-ℤ_}
 use mir.Syntax.{w32}
-use mir.Val.{toZ, SFits}
+use mir.Val.{toZ}
 use mir.ValLaws.{toZ-ofZ}
 use Rattle.vector_values.proofs.Patterns.{minus-one}
 use Rattle.vector_values.proofs.values.signed.Statement.{statement}

@@ -1,5 +1,4 @@
 -- By the test, as the definition has it.
-use native.Mathlib.Omega.{arith}
 use borrow.Author.Needs.{needs}
 use borrow.Author.Tests.{lt-ltb, le-ltb}
 use Rattle.vector_values.proofs.values.work_byte.Statement.{statement}
