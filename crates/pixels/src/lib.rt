@@ -3,14 +3,15 @@ use picture::Pixel;
 ghost use mathlib.Core.Path.{_≡_};
 ghost use Prim.Native.Nat.{_+_, _*_, _≤_};
 ghost use lib.ListN.{length};
-ghost use Rattle.pixels.specs.Pixels.{pixelFrom, pixelAt, withPixelFrom, withPixel};
+ghost use Rattle.pixels.specs.Pixels.{pixelAt, withPixel};
 ghost use Rattle.pixels.specs.Channels.{exceeds, premultiply};
 
-// The pixel whose bytes start at byte o.
-pub fn pixel_from(bytes: &[u8], o: usize) -> Pixel
-    requires { ⌜ o + 4 ≤ length (now bytes) ⌝ }
-    ensures { λ r. ⌜ r ≡ pixelFrom (now (bytes .entry)) o ⌝ }
+// Pixel i of all.
+pub fn pixel_at(bytes: &[u8], i: usize) -> Pixel
+    requires { ⌜ 4 * i + 4 ≤ length (now bytes) ⌝ }
+    ensures { λ r. ⌜ r ≡ pixelAt (now (bytes .entry)) i ⌝ }
 {
+    let o = 4 * i;
     Pixel {
         r: bytes[o],
         g: bytes[o + 1],
@@ -19,31 +20,16 @@ pub fn pixel_from(bytes: &[u8], o: usize) -> Pixel
     }
 }
 
-// Pixel i of all.
-pub fn pixel_at(bytes: &[u8], i: usize) -> Pixel
-    requires { ⌜ 4 * i + 4 ≤ length (now bytes) ⌝ }
-    ensures { λ r. ⌜ r ≡ pixelAt (now (bytes .entry)) i ⌝ }
-{
-    pixel_from(bytes, 4 * i)
-}
-
-// Writes a pixel whose bytes start at byte o.
-pub fn set_pixel_from(bytes: &mut [u8], o: usize, p: Pixel)
-    requires { ⌜ o + 4 ≤ length (now bytes) ⌝ }
-    ensures { λ _. ⌜ now (bytes .exit) ≡ withPixelFrom (now (bytes .entry)) o p ⌝ }
-{
-    bytes[o] = p.r;
-    bytes[o + 1] = p.g;
-    bytes[o + 2] = p.b;
-    bytes[o + 3] = p.a;
-}
-
 // Writes pixel i of all.
 pub fn set_pixel(bytes: &mut [u8], i: usize, p: Pixel)
     requires { ⌜ 4 * i + 4 ≤ length (now bytes) ⌝ }
     ensures { λ _. ⌜ now (bytes .exit) ≡ withPixel (now (bytes .entry)) i p ⌝ }
 {
-    set_pixel_from(bytes, 4 * i, p);
+    let o = 4 * i;
+    bytes[o] = p.r;
+    bytes[o + 1] = p.g;
+    bytes[o + 2] = p.b;
+    bytes[o + 3] = p.a;
 }
 
 // Whether r, g or b exceeds a.
