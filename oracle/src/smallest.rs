@@ -58,7 +58,7 @@ fn print_case(filters: &Filters, class: Class, case: &Case) {
     }
 }
 
-/// Lines under Wrap as a row and as a column: document 01's 80, 0, 0, 0, and short ones.
+/// Lines under Wrap as a row and as a column: case C's 80, 0, 0, 0, and short ones.
 fn print_wraps(filters: &Filters) {
     let lines: [(Class, &[u8], &[f32]); 4] = [
         (Class::Halving, &[2, 0, 0], &[1.0]),

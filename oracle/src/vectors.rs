@@ -112,7 +112,7 @@ fn alphas(entry: Entry, row: &[u8]) -> Case {
     Case::new(entry, row.len() as u32, 1, row.iter().flat_map(|a| [0, 0, 0, *a]).collect())
 }
 
-/// Document 01's marked cases, as far as an entry runs them, and the listed differences.
+/// The marked cases (rule 11), as far as an entry runs them, and the listed differences.
 fn marked() -> Vec<Case> {
     let quarter = vec![0.25, 0.5, 0.25];
     let mut cases = Vec::new();

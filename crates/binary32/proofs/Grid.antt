@@ -16,7 +16,7 @@ use Rattle.binary32.proofs.Values.{lt-true, lt-false, value→is, whole
 use Rattle.binary32.proofs.Ranges.{in-unit, unit-in}
 use Rattle.binary32.proofs.Scaled.{scaled, Cuttable, whole-part}
 
--- ---- document 01's words: on the grid are the values m / 65536 for a whole m from 0 to 65536
+-- ---- rule 5.11: on the grid are the values m / 65536 for a whole m from 0 to 65536
 unit-part : (a c : ℕ) → 0 < c → a ≤ c → a * 65536 / c ≤ 65536
 unit-part a c C h = le-of-suc-le-suc (div-lt-iff-lt-mul C .1 (omega arith))
 

@@ -1,4 +1,4 @@
--- Document 01's examples of the edge rules.
+-- The examples of the edge rules: those of rules 4.2 and 4.3.
 use mathlib.Core.Path.{_≡_, refl}
 use mathlib.Core.List.{[], _∷_}
 use Prim.Native.Nat.{ℕ, _-_, _*_, _%_, _≤_, _<_}

@@ -1,4 +1,4 @@
--- The edge rules on integers, as document 01 words them.
+-- The edge rules on integers: rules 4.1 to 4.4.
 use Prim.Native.Nat.{ℕ, _+_, _-_, _*_, _%_}
 use mathlib.Core.Bool.{cond}
 use lib.Dec.{ltb}

@@ -1,2 +1,2 @@
--- Document 01's marked cases, proved of the definitions.
+-- The marked cases of rule 11, proved of the definitions.
 pub mod Table

@@ -1,4 +1,4 @@
--- The marked cases as one table: what the definitions give of document 01's inputs, and what document 01 says.
+-- The marked cases of rule 11 as one table: what the definitions give of each input, and what the rule says.
 use mathlib.Core.Path.{_≡_, refl}
 use mathlib.Core.Bool.{true, false}
 use mathlib.Core.List.{List, [], _∷_, map}
@@ -104,7 +104,7 @@ table =
     ∷ ((over 0 100 128 ∷ over 128 255 128 ∷ []) gives (50 ∷ 255 ∷ []))
     ∷ []
 
--- every case gives what document 01 says
+-- every case gives what rule 11 says
 pub marked : map (λ (c : Case). c .given) table ≡ map (λ (c : Case). c .says) table
 unfolding placeOf place sample halve double convolve blur build chan painted cleared laid blurred blurredOrKept blurOutcome settled firstOf firstElse zeroOrAbove wrongSides maxSide wrongLength tooShort wrongTaps maxTaps tooDeep maxDecimations wrongEdge modeOf finite outsideUnit anyOutside taps tap toByte roundHalfUp wholeOffset isNan lt add mul ofInt neg moved shifted shiftedPicture wrongOffsets shift.shiftOutcome norm normByte over sub div
 marked = refl

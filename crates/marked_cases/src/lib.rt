@@ -1,1 +1,1 @@
-// Document 01's marked cases: definitions and one claim, no code.
+// The marked cases of rule 11: definitions and one claim, no code.

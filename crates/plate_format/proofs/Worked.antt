@@ -1,4 +1,4 @@
--- The worked file of document 01 is a plate, and a plate of no pictures is exactly 4 bytes.
+-- The worked file of rule 10.8 is a plate, and a plate of no pictures is exactly 4 bytes (rule 10.4).
 use mathlib.Core.Path.{_≡_, refl, _∙_}
 use mathlib.Core.Bool.{true}
 use mathlib.Core.List.{List, [], _∷_}

@@ -1,4 +1,4 @@
--- The shift on integers, as document 01 words it.
+-- The shift on integers, as rule 7.2 words it.
 use mathlib.Core.Path.{_≡_, refl, sym, ap, _∙_}
 use mathlib.Core.Bool.{Bool, true, false}
 use Prim.Native.Nat.{ℕ, zero, suc, _+_, _-_, _<_}

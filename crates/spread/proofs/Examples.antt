@@ -1,4 +1,4 @@
--- Reports of a few kernels: document 01's, and one or more for each refusal.
+-- Reports of a few kernels: those of rule 9.5, and one or more for each refusal.
 use mathlib.Core.Path.{_≡_, refl}
 use mathlib.Core.List.{[], _∷_}
 use lib.Ieee.{Float, nan, binary32, ofBits, isNan, lt}

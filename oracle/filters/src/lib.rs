@@ -7,7 +7,7 @@ use vello_common::filter::gaussian_blur::GaussianBlur;
 use vello_common::filter_effects::EdgeMode;
 use vello_common::pixmap::Pixmap;
 
-/// A class of difference between document 01's rules and the Rust.
+/// A class of difference between the rules (docs/RULES.md) and the Rust.
 #[derive(Clone, Copy, Debug, PartialEq, Eq, PartialOrd, Ord)]
 pub enum Class {
     /// Halving under Wrap reads the line's beginning after writing it.

@@ -1,4 +1,4 @@
-//! Document 01's rules, written plainly from the paper: what every entry answers and does to lent bytes.
+//! The rules of docs/RULES.md, written plainly: what every entry answers and does to lent bytes.
 pub mod blur;
 pub mod edges;
 pub mod exact;

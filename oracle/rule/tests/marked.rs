@@ -1,4 +1,4 @@
-//! Document 01's marked cases and worked numbers.
+//! The marked cases (rule 11) and the worked numbers of other rules.
 use rule::blur::{blur, to_channel, Rounding};
 use rule::edges::{extend, Edge};
 use rule::grading::spread;

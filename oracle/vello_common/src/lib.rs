@@ -1,4 +1,4 @@
-//! Stand-ins for the parts of vello_common that the filters name, by document 01's rules.
+//! Stand-ins for the parts of vello_common that the filters name, by the rules of docs/RULES.md.
 //! Only the names are vello_common's; no text of it was at hand.
 
 pub mod color {
@@ -72,7 +72,7 @@ pub mod filter_effects {
 }
 
 pub mod filter {
-    /// Document 01's largest tap count.
+    /// The largest tap count, by rule 3.5.
     pub const MAX_KERNEL_SIZE: usize = 33;
 
     pub mod gaussian_blur {
