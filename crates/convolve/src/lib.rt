@@ -89,7 +89,7 @@ fn each_line(
 }
 
 // Each of `lines` lines of at most SHORT elements that are taken whole: one block each, in the small buffers. It is a loop of its own: with one
-// loop that either buffers are lent to, which the compiler keeps as a call, a picture 16 pixels wide took 9 % longer.
+// loop that either pair of buffers is lent to, which the compiler keeps as a call, a picture 16 pixels wide took 9 % longer.
 fn convolve_short(
     src: &[u8],
     dst: &mut [u8],

@@ -173,7 +173,7 @@ fn resize_inner(src: &[u8], start: usize, len: usize, dst: &mut [u8], o: usize, 
     }
 }
 
-// A row of at least three pixels, so that some output has all samples inside: outputs at both ends by the edge rule, those between with no test.
+// A row of at least three pixels, whose two ends do not overlap: the outputs there by the edge rule, those between with no test.
 fn resize_row(
     src: &[u8],
     start: usize,
