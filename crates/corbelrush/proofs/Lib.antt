@@ -1,3 +1,4 @@
 -- Laws of the answers that C gets.
 pub mod Sides
 pub mod Determined
+pub mod Runs

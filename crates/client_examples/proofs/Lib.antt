@@ -1,0 +1,2 @@
+-- Concrete calls, worked out by the definitions.
+pub mod Worked
