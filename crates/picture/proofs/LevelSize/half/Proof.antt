@@ -11,5 +11,8 @@ add-t2 c = omega (arith, c .before .pre .w-high, room-is)
 add-t4 : tie.Need-add-t4
 add-t4 c = omega (arith, c .before .before .pre .h-high, room-is)
 
+returns : tie.Need-returns
+returns c = search needs
+
 pub half-spec : {M : Type 1} → statement M
-half-spec = tie.close (tie.spec add-t2 add-t4 (λ c. search needs))
+half-spec = tie.close (tie.spec add-t2 add-t4 returns)
