@@ -44,6 +44,9 @@ add-result-4 c = omega (arith, four c)
 cast-result : tie.Need-cast-result
 cast-result c = omega (arith, four c)
 
+returns : tie.Need-returns
+returns c = search needs
+
 pub blend-spec : {M : Type 1} → statement M
 blend-spec =
     tie.close
@@ -57,4 +60,4 @@ blend-spec =
     add-result-3
     add-result-4
     cast-result
-    (λ c. search needs))
+    returns)
