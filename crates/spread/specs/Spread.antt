@@ -26,9 +26,9 @@ moment c j (w ∷ ws) = numerator w * (distance c j * distance c j) + moment c (
 unfoldable pub momentOf : List Float → ℕ
 momentOf ws = moment (length ws / 2) 0 ws
 
--- 3·131072 for each decimation
+-- what n decimations add (rule 9.4): (4^n - 1) / 2 square full-size pixels; `levels-add` counts it level by level
 unfoldable pub decimationTerm : ℕ → ℕ
-decimationTerm n = 3 * 131072 * n
+decimationTerm n = 65536 * (4 ^ n - 1)
 
 -- the spread of a blur with n decimations, in units of 1/131072 of a square full-size pixel
 unfoldable pub spreadOf : List Float → ℕ → ℕ

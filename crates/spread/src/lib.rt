@@ -6,8 +6,8 @@ ghost use Rattle.binary32.specs.Grid.{numerator};
 ghost use Rattle.spread.specs.Spread.{spreadNumber, distance, WholeKernel, momentOf, decimationTerm, spreadOf, report, reported};
 use binary32::GridWeight;
 
-// How many units a square full-size pixel has.
-const SQUARE_PIXEL: u64 = 131072;
+// How many units half a square full-size pixel has.
+const HALF_PIXEL: u64 = 65536;
 
 // A spread, in units of 1/131072 of a square full-size pixel.
 pub struct Spread {
@@ -85,11 +85,12 @@ fn scale(n: u32) -> u64
     2 << (2 * n)
 }
 
-// What n decimations add.
+// What n decimations add: (4^n - 1) / 2 square full-size pixels.
 fn decimation_term(n: u32) -> u64
+    requires { ⌜ n ≤ maxDecimations ⌝ }
     ensures { λ r. ⌜ r ≡ decimationTerm n ⌝ }
 {
-    3 * SQUARE_PIXEL * n as u64
+    HALF_PIXEL * (scale(n) / 2 - 1)
 }
 
 // The spread of a kernel with n decimations around it.

@@ -36,7 +36,17 @@ pub fn numerator(weight: f32) -> Option<u64> {
     whole.then_some(scaled as u64)
 }
 
-/// Spread: refusals 4, 6, 11. The number and the spread in 1/131072 of a square full-size pixel.
+/// The spread of numerators that sum to 65536, with n decimations, in 1/131072 of a square full-size pixel. Level by
+/// level, halving and doubling at level i each add 0.75 · 4^i square pixels; no limit on n is asked for here.
+pub fn units(numerators: &[u64], n: u32) -> u64 {
+    let middle = numerators.len() / 2;
+    let squares = |(j, m): (usize, &u64)| m * (j.abs_diff(middle) as u64).pow(2);
+    let kernel: u64 = numerators.iter().enumerate().map(squares).sum();
+    let passes: u64 = (0..n).map(|i| 2 * (131072 * 3 / 4) * 4_u64.pow(i)).sum();
+    2 * 4_u64.pow(n) * kernel + passes
+}
+
+/// Spread: refusals 4, 6, 11. The number, and the spread as `units` counts it.
 pub fn spread(weights: &[f32], n: u32) -> (u32, u64) {
     let numerators: Option<Vec<u64>> = weights.iter().map(|w| numerator(*w)).collect();
     let sums_to_one = |m: &Vec<u64>| m.iter().sum::<u64>() == 65536;
@@ -46,8 +56,5 @@ pub fn spread(weights: &[f32], n: u32) -> (u32, u64) {
         (11, !numerators.as_ref().is_some_and(sums_to_one)),
     ]);
     let (0, Some(numerators)) = (refused, numerators) else { return (refused, 0) };
-    let middle = numerators.len() / 2;
-    let squares = |(j, m): (usize, &u64)| m * (j.abs_diff(middle) as u64).pow(2);
-    let sum: u64 = numerators.iter().enumerate().map(squares).sum();
-    (0, 2 * 4_u64.pow(n) * sum + 3 * 131072 * u64::from(n))
+    (0, units(&numerators, n))
 }

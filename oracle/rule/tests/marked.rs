@@ -75,7 +75,7 @@ fn rounding_just_below_a_half() {
 #[test]
 fn spread_of_a_quarter_a_half_a_quarter() {
     assert_eq!(spread(&[0.25, 0.5, 0.25], 0), (0, 65536));
-    assert_eq!(spread(&[0.25, 0.5, 0.25], 1), (0, 655360));
+    assert_eq!(spread(&[0.25, 0.5, 0.25], 1), (0, 458752));
 }
 
 #[test]

@@ -6,13 +6,13 @@ use Rattle.spread.proofs.scale.Statement.{statement}
 use Rattle.spread.proofs.scale.Tie as tie
 
 mul-result : tie.Need-mul-result
-mul-result c = omega (arith, c .pre, depth-fits)
+mul-result c = omega (arith, depth-fits (c .args .n) (c .pre))
 
 shl-result : tie.Need-shl-result
-shl-result c = omega (arith, c .pre, depth-fits)
+shl-result c = omega (arith, depth-fits (c .args .n) (c .pre))
 
 returns : tie.Need-returns
-returns c = shifted (c .args .n) (c .pre)
+returns c = shifted (c .args .n) (depth-fits _ (c .pre))
 
 pub scale-spec : {M : Type 1} → statement M
 scale-spec = tie.close (tie.spec mul-result (λ c. search needs) shl-result returns)
