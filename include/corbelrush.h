@@ -113,8 +113,10 @@ uint32_t corbelrush_sample(const uint8_t *picture, size_t picture_len, uint32_t 
                            int32_t y);
 
 /*
- * How far a blur with these weights and n decimations spreads a pixel: *spread is the variance in units of 1/131072 of
- * a square pixel.
+ * How far a blur with these weights and n decimations spreads a pixel: *spread is the variance along an axis, about the
+ * place where the pixel stood, in units of 1/131072 of a square pixel. Halving and doubling at level i, i below n, add
+ * 0.75 * 4^i square pixels each, and the weights 4^n times what they have at n = 0: 1/4, 1/2, 1/4 has 65536 at n = 0,
+ * and 458752 at n = 1.
  *
  * Refusals: 4, 6, 11 (a weight that is NaN, infinite, below 0 or above 1 too); *spread is 0.
  * The weights are only read.

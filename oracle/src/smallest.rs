@@ -85,9 +85,26 @@ fn print_shifts(filters: &Filters) {
     }
 }
 
-/// Prints which outputs are stale and the smallest inputs.
+/// What a decimation adds, on which the source says 3.0 in its header and 0.75 at its pass: one pixel of alpha 128 at
+/// n = 1, where no pass rounds.
+fn print_dots(filters: &Filters) {
+    let (at, mut dot) = (8, vec![0; 64]);
+    dot[4 * at + 3] = 128;
+    for weights in [vec![1.0], vec![0.25, 0.5, 0.25]] {
+        let case = Case { weights, n: 1, ..Case::new(Entry::Blur, 16, 1, dot.clone()) };
+        let Some(bytes) = picture(filters, &case, &mut Scratch::default()) else { continue };
+        let alphas: Vec<u64> = bytes.iter().skip(3).step_by(4).map(|a| u64::from(*a)).collect();
+        let moment: u64 = alphas.iter().enumerate().map(|(x, a)| a * (x.abs_diff(at) as u64).pow(2)).sum();
+        let report = rule::grading::spread(&case.weights, 1).1 as f64 / 131072.0;
+        println!("a dot blurred: {case}\n    Rust  {alphas:?}");
+        println!("    its second moment {} square pixels, the spread report {report}", moment as f64 / 128.0);
+    }
+}
+
+/// Prints which outputs are stale, what a decimation adds, and the smallest inputs.
 pub fn print() {
     let Some(filters) = published() else { return };
+    print_dots(filters);
     passes::print_stale();
     print_wraps(filters);
     print_shifts(filters);
