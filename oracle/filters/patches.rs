@@ -12,7 +12,7 @@ const fn edit(class: &'static str, file: &'static str, old: &'static str, new: &
     Edit { class, file, old, new }
 }
 
-pub const CLASSES: [&str; 4] = ["Halving", "Doubling", "Clearing", "Overflow"];
+pub const CLASSES: [&str; 5] = ["Halving", "Doubling", "Clearing", "Overflow", "Flooring"];
 
 pub const EDITS: &[Edit] = &[
     // Wrap halving in place: take the samples from the picture as it stood before the pass.
@@ -65,4 +65,11 @@ pub const EDITS: &[Edit] = &[
     // 32-bit overflow of the moved coordinate: hold it at the limit, which lies outside every picture.
     edit("Overflow", "shift.rs", "x as i32 + dx_pixels;", "(x as i32).saturating_add(dx_pixels);"),
     edit("Overflow", "shift.rs", "y as i32 + dy_pixels;", "(y as i32).saturating_add(dy_pixels);"),
+    // The shadow's colour cut down: to the nearest whole number.
+    edit(
+        "Flooring",
+        "drop_shadow.rs",
+        "((u16::from(channel) * alpha_u16) / 255) as u8",
+        "((u16::from(channel) * alpha_u16 + 127) / 255) as u8",
+    ),
 ];

@@ -5,7 +5,7 @@ use filters::Class;
 use rule::blur::{blurred, Rounding};
 use rule::edges::Edge;
 use rule::scheme::Passes;
-use rule::shadow::finished;
+use rule::shadow::{finished, premultiply, Premultiply};
 use rule::shift::{shifted, whole};
 
 /// Which faults a model has.
@@ -87,6 +87,11 @@ fn shifted_in_place(picture: &[u8], w: usize, h: usize, dx: i64, dy: i64) -> Vec
     answer
 }
 
+/// The Rust's colour: a 255th of the product, down to a whole number.
+fn floored(channel: u8, alpha: u8) -> u8 {
+    (u32::from(channel) * u32::from(alpha) / 255) as u8
+}
+
 /// A coordinate of the picture plus the offset passes 32 bits.
 pub fn overflows(case: &Case) -> bool {
     let passes = |side: u32, offset: f32| i64::from(side) - 1 + held(offset) > i32::MAX.into();
@@ -114,8 +119,9 @@ pub fn picture(case: &Case, faults: Faults) -> Option<Vec<u8>> {
         let rounding = Rounding { weights: &case.weights, edge };
         copy = blurred(&InPlace { rounding, faults }, case.n, &copy, w, h);
     }
+    let times: Premultiply = if (faults.0)(Class::Flooring) { floored } else { premultiply };
     match case.entry {
-        Entry::Shadow => Some(finished(&case.picture, &copy, case.colour, case.composite != 0)),
+        Entry::Shadow => Some(finished(&case.picture, &copy, case.colour, times, case.composite != 0)),
         _ => Some(copy),
     }
 }

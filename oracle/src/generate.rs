@@ -32,6 +32,7 @@ pub fn all(amount: Amount, take: Take) {
     shifts(&mut random, take);
     far_shifts(&mut random, take);
     shadow_alphas(&mut random, amount, take);
+    shadow_colours(take);
     if amount == Amount::Full {
         compositing(&mut random, take);
         largest(&mut random, take);
@@ -163,6 +164,18 @@ fn shadow_alphas(random: &mut Random, amount: Amount, take: Take) {
             case.colour = [(); 4].map(|_| k as f32 / 255.0);
         }
         take(Case { strength: 0.0, dx: 0.0, dy: 0.0, ..case });
+    }
+}
+
+/// Every colour's channel at every alpha, three channels a picture: the shadow of a row lies on the next one, which is
+/// empty; with the original and without.
+fn shadow_colours(take: Take) {
+    let picture = (0..512).flat_map(|i| [0, 0, 0, u8::try_from(i).unwrap_or(0)]).collect();
+    let plain = Case { weights: vec![1.0], strength: 0.0, dy: 1.0, ..Case::new(Entry::Shadow, 256, 2, picture) };
+    for k in (0..256).step_by(3) {
+        let colour = [k, (k + 1).min(255), (k + 2).min(255), 255].map(|c| c as f32 / 255.0);
+        take(Case { colour, ..plain.clone() });
+        take(Case { colour, composite: 1, ..plain.clone() });
     }
 }
 

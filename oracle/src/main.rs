@@ -50,8 +50,11 @@ fn compare_cases(amount: Amount) -> bool {
     tally.print();
     if let Some((case, kind)) = &failed {
         report(library, case.clone(), kind);
+        return false;
     }
-    failed.is_none()
+    let unseen = tally.unseen();
+    unseen.iter().for_each(|row| println!("no case has shown this: {row}"));
+    unseen.is_empty()
 }
 
 fn compare_passes(amount: Amount) -> bool {

@@ -72,7 +72,9 @@ fn numbers(case: &Case) -> Vec<Case> {
     add(&|c| c.strength = 1.0);
     add(&|c| c.composite = c.composite.min(1));
     for i in 0..4 {
-        add(&|c| c.colour[i] = 1.0);
+        for component in SIMPLE.into_iter().filter(|v| oddness(v) < oddness(&case.colour[i])) {
+            add(&|c| c.colour[i] = component);
+        }
     }
     for x in [0, case.x / 2] {
         add(&|c| c.x = x);
@@ -89,7 +91,7 @@ fn kernels(case: &Case) -> Vec<Case> {
         let mut fewer = case.weights.clone();
         fewer.remove(j);
         lists.push(fewer);
-        for weight in [1.0, 0.5, 0.0] {
+        for weight in SIMPLE {
             let mut simpler = case.weights.clone();
             simpler[j] = weight;
             lists.push(simpler);
@@ -99,10 +101,16 @@ fn kernels(case: &Case) -> Vec<Case> {
     lists.into_iter().map(|weights| Case { weights, ..case.clone() }).collect()
 }
 
+/// Weights and colour components, the simplest first.
+const SIMPLE: [f32; 3] = [1.0, 0.5, 0.0];
+
+fn oddness(value: &f32) -> u32 {
+    SIMPLE.iter().position(|v| v.to_bits() == value.to_bits()).unwrap_or(9) as u32
+}
+
 /// How odd a kernel is.
 fn cost(weights: &[f32]) -> u32 {
-    let one = |w: &f32| [1.0_f32, 0.5, 0.0].iter().position(|v| v.to_bits() == w.to_bits()).unwrap_or(9) as u32;
-    weights.iter().map(one).sum()
+    weights.iter().map(oddness).sum()
 }
 
 fn bytes(case: &Case) -> Vec<Case> {

@@ -85,6 +85,15 @@ fn print_shifts(filters: &Filters) {
     }
 }
 
+/// A shadow of alpha 1 in half a red, alone and under its original.
+fn print_shadows(filters: &Filters) {
+    let faint =
+        Case { weights: vec![1.0], colour: [0.5, 0.0, 0.0, 1.0], ..Case::new(Entry::Shadow, 1, 1, vec![0, 0, 0, 1]) };
+    for composite in [0, 1] {
+        print_case(filters, Class::Flooring, &Case { composite, ..faint.clone() });
+    }
+}
+
 /// What a decimation adds, on which the source says 3.0 in its header and 0.75 at its pass: one pixel of alpha 128 at
 /// n = 1, where no pass rounds.
 fn print_dots(filters: &Filters) {
@@ -108,6 +117,7 @@ pub fn print() {
     passes::print_stale();
     print_wraps(filters);
     print_shifts(filters);
+    print_shadows(filters);
     for class in CLASSES {
         for (entry, wide) in [Entry::Blur, Entry::Shift, Entry::Shadow].map(|e| [(e, false), (e, true)]).concat() {
             let Some(case) = smallest(entry, class, wide) else { continue };

@@ -1,6 +1,7 @@
 //! Counts of the cases run: per entry, class, mode, n and size band.
 use crate::case::{Case, Entry, ENTRIES};
 use crate::compare::Seen;
+use filters::{Class, CLASSES};
 use std::collections::BTreeMap;
 
 #[derive(Default)]
@@ -23,6 +24,11 @@ fn band(case: &Case) -> &'static str {
     }
 }
 
+/// The row of the shadows whose colour the Rust floors: with the original, and without.
+fn flooring(composited: bool) -> String {
+    format!("class Flooring {}", if composited { "composited" } else { "alone" })
+}
+
 impl Tally {
     fn add(&mut self, row: String, entry: Entry) {
         *self.counts.entry(row).or_default().entry(entry).or_default() += 1;
@@ -36,6 +42,9 @@ impl Tally {
         for class in &seen.classes {
             self.add(format!("class {class:?}"), entry);
         }
+        if seen.classes.contains(&Class::Flooring) {
+            self.add(flooring(case.composite != 0), entry);
+        }
         if !case.is_plate() && entry != Entry::Spread {
             self.add(format!("size {}", band(case)), entry);
         }
@@ -48,13 +57,21 @@ impl Tally {
         }
     }
 
+    /// The rows of classes that no case has shown.
+    pub fn unseen(&self) -> Vec<String> {
+        let mut rows: Vec<String> = CLASSES.iter().map(|class| format!("class {class:?}")).collect();
+        rows.extend([false, true].map(flooring));
+        rows.retain(|row| !self.counts.contains_key(row));
+        rows
+    }
+
     pub fn print(&self) {
         let heads: String = ENTRIES.iter().map(|entry| format!("{:>14}", format!("{entry:?}"))).collect();
-        println!("{:20}{heads}", "");
+        println!("{:26}{heads}", "");
         for (row, by_entry) in &self.counts {
             let cell = |entry| by_entry.get(entry).map_or(String::new(), |count| count.to_string());
             let cells: String = ENTRIES.iter().map(|entry| format!("{:>14}", cell(entry))).collect();
-            println!("{row:20}{cells}");
+            println!("{row:26}{cells}");
         }
         println!("cases {}", self.cases);
     }

@@ -132,12 +132,24 @@ fn marked() -> Vec<Case> {
         ..alphas(Entry::Shadow, &[255, 128])
     };
     cases.extend([Case { composite: 0, ..over.clone() }, over]);
+    cases.extend(coloured());
     for n in [0, 1, 12] {
         cases.push(Case { weights: quarter.clone(), n, ..alphas(Entry::Spread, &[]) });
     }
     let plate = vec![1, 0, 1, 0, 1, 0, 1, 0, 16, 0, 0, 0, 4, 0, 0, 0, 10, 20, 30, 255];
     cases.extend([Entry::PlateJob, Entry::PlatePicture].map(|entry| Case::new(entry, 0, 0, plate.clone())));
     cases.push(Case { scratch: 3, ..Case::new(Entry::PlateJob, 0, 0, plate) });
+    cases
+}
+
+/// Shadows of faint and of strong alphas, alone and under the original; that of the row lies one pixel to the right.
+fn coloured() -> Vec<Case> {
+    let mut cases = Vec::new();
+    for composite in [0, 1] {
+        let plain =
+            |row| Case { weights: vec![1.0], colour: [0.5, 0.25, 0.9, 1.0], composite, ..alphas(Entry::Shadow, row) };
+        cases.extend([plain(&[1]), Case { dx: 1.0, ..plain(&[1, 2, 3, 127, 128, 254, 255]) }]);
+    }
     cases
 }
 

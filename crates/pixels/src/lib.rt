@@ -52,11 +52,11 @@ pub fn wide(x: u8) -> u16
     x as u16
 }
 
-// A channel multiplied by its alpha.
+// A channel multiplied by its alpha, to the nearest whole number.
 pub fn premultiply(channel: u8, alpha: u8) -> u8
     ensures { λ r. ⌜ r ≡ premultiply channel alpha ⌝ }
 {
-    (wide(channel) * wide(alpha) / 255) as u8
+    ((wide(channel) * wide(alpha) + 127) / 255) as u8
 }
 
 // Copies all bytes.

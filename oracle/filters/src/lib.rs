@@ -18,9 +18,11 @@ pub enum Class {
     Clearing,
     /// A shifted coordinate overflows 32 bits.
     Overflow,
+    /// A shadow's colour is a product over 255 that is cut down to a whole number.
+    Flooring,
 }
 
-pub const CLASSES: [Class; 4] = [Class::Halving, Class::Doubling, Class::Clearing, Class::Overflow];
+pub const CLASSES: [Class; 5] = [Class::Halving, Class::Doubling, Class::Clearing, Class::Overflow, Class::Flooring];
 
 /// One variant: its entries, and the two level passes by themselves.
 pub struct Filters {

@@ -17,15 +17,20 @@ fn share(channel: u8) -> f32 {
     f32::from(channel) / 255.0
 }
 
+/// A channel multiplied by its alpha.
+pub type Premultiply = fn(channel: u8, alpha: u8) -> u8;
+
+/// To the nearest whole number.
+pub fn premultiply(channel: u8, alpha: u8) -> u8 {
+    ((u32::from(channel) * u32::from(alpha) + 127) / 255) as u8
+}
+
 /// The shadow's pixel where the shifted and blurred copy has alpha `a`.
-pub fn coloured(a: u8, colour: [f32; 4]) -> [u8; 4] {
+fn coloured(a: u8, colour: [f32; 4], premultiply: Premultiply) -> [u8; 4] {
     let [red, green, blue, alpha] = colour;
     let product = share(a) * alpha;
     let alpha = to_channel(product.min(1.0) * 255.0);
-    let times = |component: f32| {
-        let channel = to_channel(component * 255.0);
-        (u32::from(channel) * u32::from(alpha) / 255) as u8
-    };
+    let times = |component: f32| premultiply(to_channel(component * 255.0), alpha);
     [times(red), times(green), times(blue), alpha]
 }
 
@@ -38,9 +43,9 @@ pub fn over(src: u8, dst: u8, src_alpha: u8) -> u8 {
 }
 
 /// The picture that comes of the original and the shifted and blurred copy.
-pub fn finished(original: &[u8], copy: &[u8], colour: [f32; 4], composite: bool) -> Vec<u8> {
+pub fn finished(original: &[u8], copy: &[u8], colour: [f32; 4], premultiply: Premultiply, composite: bool) -> Vec<u8> {
     let pixel = |(src, copied): (&[u8], &[u8])| {
-        let dst = coloured(copied[3], colour);
+        let dst = coloured(copied[3], colour, premultiply);
         if composite {
             [0, 1, 2, 3].map(|c| over(src[c], dst[c], src[3]))
         } else {
@@ -82,7 +87,7 @@ pub fn shadow(
     if strength > 0.0 {
         moved = blurred(&Rounding { weights, edge }, n, &moved, width, height);
     }
-    picture.copy_from_slice(&finished(picture, &moved, colour, composite));
+    picture.copy_from_slice(&finished(picture, &moved, colour, premultiply, composite));
     scratch[..picture.len()].fill(0);
     copy[..picture.len()].fill(0);
     0

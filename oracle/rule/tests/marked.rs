@@ -4,7 +4,7 @@ use rule::edges::{extend, Edge};
 use rule::grading::spread;
 use rule::plate::job;
 use rule::scheme::Passes;
-use rule::shadow::over;
+use rule::shadow::{over, premultiply};
 use rule::shift::{shift, whole};
 
 fn passes(edge: Edge) -> Rounding<'static> {
@@ -65,6 +65,12 @@ fn g_h_shift() {
 #[test]
 fn i_compositing() {
     assert_eq!((over(0, 100, 128), over(128, 255, 128)), (50, 255));
+}
+
+#[test]
+fn faint_colours() {
+    assert_eq!((premultiply(128, 1), premultiply(127, 1)), (1, 0));
+    assert!((0..=255).all(|alpha| premultiply(255, alpha) == alpha && premultiply(0, alpha) == 0));
 }
 
 #[test]

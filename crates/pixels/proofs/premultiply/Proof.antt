@@ -1,4 +1,4 @@
--- `premultiply` meets its contract: the product of two bytes fits, and a 255th of it is a byte.
+-- `premultiply` meets its contract: the product of two bytes fits, with 127 more too, and a 255th of that is a byte.
 use Prim.Native.Nat.{_*_, _≤_}
 use native.Mathlib.Nat.{mul-le-mul}
 use native.Mathlib.Omega.{arith}
@@ -13,6 +13,9 @@ fits c = mul-le-mul {n₁ = c .before .wide .result} {m₁ = c .wide2 .result} {
 mul-result : tie.Need-mul-result
 mul-result c = let f = fits c in search needs
 
+add-result : tie.Need-add-result
+add-result c = let f = fits c in search needs
+
 cast-result : tie.Need-cast-result
 cast-result c = let f = fits c in omega arith
 
@@ -21,4 +24,4 @@ unfolding premultiply
 returns c = rw (c .before .wide .ensures, c .wide2 .ensures)
 
 pub premultiply-spec : {M : Type 1} → statement M
-premultiply-spec = tie.close (tie.spec (λ c κs. search needs) (λ c κs. search needs) mul-result cast-result returns)
+premultiply-spec = tie.close (tie.spec (λ c κs. search needs) (λ c κs. search needs) mul-result add-result cast-result returns)
