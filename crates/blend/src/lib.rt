@@ -99,7 +99,7 @@ fn blend_element(
     }
 }
 
-// Pixel i of the row at start. It is read here and not by `pixels`: through a second call a blur with decimations took 8 to 25 % longer.
+// Pixel i of the row at start. It is read here and not by `pixels`: through a second call a blur with decimations took up to 29 % longer.
 fn read_pixel(src: &[u8], start: usize, i: usize) -> Pixel
     requires { ⌜ start + i * 4 + 4 ≤ length (now src) ⌝ }
     ensures { λ r. ⌜ r ≡ pixelFrom (now (src .entry)) (start + i * 4) ⌝ }
