@@ -19,7 +19,8 @@ use Rattle.grading.specs.Sampling.{viewRefusal, sampled}
 use Rattle.spread.specs.Spread.{reported}
 use Rattle.plate.specs.Lookup.{Picture, lookedUp}
 use Rattle.job.specs.Job as job
-use Rattle.corbelrush.specs.Words.{recipe, flag, reworded, Pointers, pointers, findingIn, packed, pictureIn}
+use Rattle.corbelrush.specs.Words.{recipe, flag, reworded, Pointers, pointers, findingIn, pictureIn}
+use Rattle.pixels.specs.Pixels.{packed}
 use Rattle.corbelrush.proofs.filters.corbelrush_blur.Reads as blur
 use Rattle.corbelrush.proofs.filters.corbelrush_blur.Kinds as blur-kinds
 use Rattle.corbelrush.proofs.filters.corbelrush_shift.Reads as shift

@@ -1,10 +1,9 @@
 -- What C passes, and what the entries answer as the numbers that C gets.
 use mathlib.Core.Bool.{Bool, not, cond}
-use Prim.Native.Nat.{ℕ, _+_, _*_}
+use Prim.Native.Nat.{ℕ}
 use lib.Dec.{eqb}
 use lib.Ieee.{Float}
 use Rattle.picture.specs.Answer.{Answer, answered}
-use Rattle.picture.specs.declared.Pixel.{Pixel}
 use Rattle.drop_shadow.specs.declared.Recipe.{Recipe}
 use Rattle.grading.specs.Premultiplied.{Finding}
 use Rattle.plate.specs.Lookup.{Picture}
@@ -40,10 +39,6 @@ pointers found place = record { found = found; place = place }
 
 abbrev pub findingIn : Finding → Pointers
 findingIn f = pointers (cond (f .found) 1 0) (f .place)
-
--- a pixel in one number: r | g<<8 | b<<16 | a<<24
-abbrev pub packed : Pixel → ℕ
-packed p = p .r + p .g * 256 + p .b * 65536 + p .a * 16777216
 
 -- a picture of a plate behind four pointers
 abbrev pub pictureIn : ℕ → ℕ → ℕ → ℕ → Picture

@@ -3,10 +3,11 @@ use grading::premultiplied::Checked;
 use spread::Reported;
 ghost use mathlib.Core.Path.{_≡_};
 ghost use Rattle.picture.specs.Answer.{answered};
+ghost use Rattle.pixels.specs.Pixels.{packed};
 ghost use Rattle.grading.specs.Premultiplied.{checked};
 ghost use Rattle.grading.specs.Sampling.{viewRefusal, sampled};
 ghost use Rattle.spread.specs.Spread.{reported};
-ghost use Rattle.corbelrush.specs.Words.{reworded, pointers, findingIn, packed};
+ghost use Rattle.corbelrush.specs.Words.{reworded, pointers, findingIn};
 
 // The first pixel of which a channel exceeds alpha: whether there is one, and its place.
 #[no_mangle]
@@ -52,7 +53,7 @@ pub extern "C" fn corbelrush_sample(
 ) -> u32
     ensures { λ r. ⌜ r ≡ packed (sampled (now (picture .entry)) w h edge x y) ⌝ }
 {
-    pack(grading::sampling::sample_at(picture, w, h, edge, x, y))
+    pixels::pack(grading::sampling::sample_at(picture, w, h, edge, x, y))
 }
 
 // The spread of a blur with these weights and n decimations.
@@ -68,11 +69,4 @@ pub extern "C" fn corbelrush_spread(weights: &[f32], n: u32, spread: &mut u64) -
             0
         }
     }
-}
-
-// A pixel in one word, red lowest.
-fn pack(p: picture::Pixel) -> u32
-    ensures { λ r. ⌜ r ≡ packed p ⌝ }
-{
-    p.r as u32 + p.g as u32 * 256 + p.b as u32 * 65536 + p.a as u32 * 16777216
 }

@@ -38,6 +38,26 @@ pub const OFF_GRID: u32 = 11;
 
 pub const NO_PICTURE: u32 = 12;
 
+pub const NO_ROOM: u32 = 13;
+
+pub const WRONG_SUM: u32 = 14;
+
+pub const NO_PAM: u32 = 15;
+
+pub const EXCEEDS: u32 = 16;
+
+pub const LIST_FULL: u32 = 17;
+
+pub const WRONG_LIST: u32 = 18;
+
+pub const WRONG_RECIPE: u32 = 19;
+
+pub const WRONG_BOX: u32 = 20;
+
+pub const TOO_DEEP_TO_SHARE: u32 = 21;
+
+pub const OUTSIDE: u32 = 22;
+
 // The largest side of a picture, the most taps of a kernel and the most decimations.
 pub const MAX_SIDE: usize = 4096;
 

@@ -23,3 +23,7 @@ withPixelFrom bytes o p = set (set (set (set bytes o (p .r)) (o + 1) (p .g)) (o 
 -- the bytes with another pixel i
 abbrev pub withPixel : List ℕ → ℕ → Pixel → List ℕ
 withPixel bytes i p = withPixelFrom bytes (4 * i) p
+
+-- a pixel in one number: r | g<<8 | b<<16 | a<<24
+abbrev pub packed : Pixel → ℕ
+packed p = p .r + p .g * 256 + p .b * 65536 + p .a * 16777216

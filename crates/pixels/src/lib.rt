@@ -1,9 +1,9 @@
-// One pixel of a picture read and written, whether a channel of it exceeds alpha, a channel multiplied by its alpha; and bytes copied.
+// One pixel of a picture read, written and packed into a word, whether a channel of it exceeds alpha, a channel multiplied by its alpha; and bytes copied.
 use picture::Pixel;
 ghost use mathlib.Core.Path.{_≡_};
 ghost use Prim.Native.Nat.{_+_, _*_, _≤_};
 ghost use lib.ListN.{length};
-ghost use Rattle.pixels.specs.Pixels.{pixelAt, withPixel};
+ghost use Rattle.pixels.specs.Pixels.{pixelAt, withPixel, packed};
 ghost use Rattle.pixels.specs.Channels.{exceeds, premultiply};
 
 // Pixel i of all.
@@ -30,6 +30,13 @@ pub fn set_pixel(bytes: &mut [u8], i: usize, p: Pixel)
     bytes[o + 1] = p.g;
     bytes[o + 2] = p.b;
     bytes[o + 3] = p.a;
+}
+
+// A pixel in one word, red lowest.
+pub fn pack(p: Pixel) -> u32
+    ensures { λ r. ⌜ r ≡ packed p ⌝ }
+{
+    p.r as u32 + p.g as u32 * 256 + p.b as u32 * 65536 + p.a as u32 * 16777216
 }
 
 // Whether r, g or b exceeds a.

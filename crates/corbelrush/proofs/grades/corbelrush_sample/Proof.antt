@@ -2,7 +2,7 @@
 use mathlib.Core.Path.{_∙_, ap}
 use mir.Syntax.{w32}
 use mir.ValLaws.{toZ-ofZ}
-use Rattle.corbelrush.specs.Words.{packed}
+use Rattle.pixels.specs.Pixels.{packed}
 use borrow.Author.Needs.{needs}
 use Rattle.corbelrush.proofs.grades.corbelrush_sample.Statement.{statement}
 use Rattle.corbelrush.proofs.grades.corbelrush_sample.Tie as tie

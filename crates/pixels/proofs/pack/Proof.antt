@@ -1,7 +1,7 @@
 -- No sum wraps, and the word is the definition's.
 use borrow.Author.Needs.{needs}
-use Rattle.corbelrush.proofs.grades.pack.Statement.{statement}
-use Rattle.corbelrush.proofs.grades.pack.Tie as tie
+use Rattle.pixels.proofs.pack.Statement.{statement}
+use Rattle.pixels.proofs.pack.Tie as tie
 
 returns : tie.Need-returns
 returns c = search needs
