@@ -1,14 +1,13 @@
 -- A buffer filled from the front with what a rule makes of a list.
 use mathlib.Core.Path.{_≡_, refl, ap}
 use mathlib.Core.List.{List, [], _∷_, _++_, map, append-nil}
-use Prim.Native.Nat.{ℕ, zero, suc, _+_, _-_, _<_, _≤_}
+use Prim.Native.Nat.{ℕ, zero, suc, _+_, _<_}
 use native.Mathlib.Numerals.{add-one}
 use native.Mathlib.Omega.{arith}
-use native.Mathlib.Nat.{sub-zero}
-use lib.ListN.{length, getD, take, drop, set, length-map}
-use lib.Seq.{take-length, drop-length, take-at, length-take-le}
+use lib.ListN.{length, getD, take, drop, set}
+use lib.Seq.{take-length, drop-length}
 use Rattle.picture.specs.Build.{build}
-use Rattle.picture.proofs.Build.{length-build}
+use Rattle.picture.proofs.Build.{build-more}
 
 module _ {A : Type 0} (f : ℕ → A) where
   -- one more element is stored
@@ -30,15 +29,10 @@ module _ {A : Type 0} (f : ℕ → A) where
       let k : i ≡ length v = omega arith in
       rw (e, drop-length to, append-nil, l, take-length v)
 
--- the front of a buffer, cut off by its length
-front : (n : ℕ) (made rest : List ℕ) → length made ≡ n → take (n - 0) (made ++ rest) ≡ made
-front n made rest e = rw (sub-zero n) (take-at made rest n e)
+-- a rule's elements are stored from the front: one more, and all
+module _ (f : ℕ → ℕ) (to₀ : List ℕ) (i : ℕ) {to : List ℕ} (is : to ≡ build i f ++ drop i to₀) where
+  pub stored : {x : ℕ} → i < length to₀ → x ≡ f i → set to i x ≡ build (i + 1) f ++ drop (i + 1) to₀
+  stored h e = rw (is, e) (build-more f to₀ i h)
 
-pub front-map : (f : ℕ → ℕ) (v rest : List ℕ) → take (length v - 0) (map f v ++ rest) ≡ map f v
-front-map f v rest = front (length v) (map f v) rest (length-map v f)
-
-pub front-build : (n : ℕ) (f : ℕ → ℕ) (rest : List ℕ) → take (n - 0) (build n f ++ rest) ≡ build n f
-front-build n f rest = front n (build n f) rest (length-build n f)
-
-pub front-length : (n : ℕ) (l : List ℕ) → n ≤ length l → length (take (n - 0) l) ≡ n
-front-length n l h = rw (sub-zero n) (length-take-le n l h)
+  pub stored-all : i ≡ length to₀ → to ≡ build (length to₀) f
+  stored-all e = rw (is, e, drop-length to₀, append-nil)

@@ -2,3 +2,4 @@
 pub mod Numerals
 pub mod Filled
 pub mod Patterns
+pub mod Reached

@@ -13,15 +13,15 @@ use lib.Seq.{drop-cons}
 use lib.IntN.{pos, negsuc, _-ℤ_}
 use lib.Ieee.{Float, nan, inf, fin, binary32, div, ofBits, nanBits, isNan}
 use lib.Ieee.Bits.{nanBits-is}
-use Rattle.vector_values.specs.Values.{allBelow}
+use Rattle.vector_values.specs.Values.{allUnder}
 
 module _ (v : List ℕ) (bound i : ℕ) (inside : i < length v) where
-  pub below-more : getD v i 0 < bound → allBelow (drop i v) bound ≡ allBelow (drop (i + 1) v) bound
-  unfolding allBelow
+  pub below-more : getD v i 0 < bound → allUnder (drop i v) bound ≡ allUnder (drop (i + 1) v) bound
+  unfolding allUnder
   below-more h = rw (add-one, drop-cons v i 0 inside, lt-ltb _ _ h)
 
-  pub below-stops : bound ≤ getD v i 0 → allBelow (drop i v) bound ≡ false
-  unfolding allBelow
+  pub below-stops : bound ≤ getD v i 0 → allUnder (drop i v) bound ≡ false
+  unfolding allUnder
   below-stops h = rw (drop-cons v i 0 inside, le-ltb _ _ h)
 
 pub zero-over-zero : div binary32 (ofBits binary32 0) (ofBits binary32 0) ≡ nan

@@ -2,14 +2,12 @@
 use mathlib.Core.Path.{_≡_}
 use mathlib.Core.Bool.{Bool, true, cond, _&&_}
 use mathlib.Core.List.{List, [], _∷_}
-use Prim.Native.Nat.{ℕ, _+_, _%_, _^_, _≤_}
+use Prim.Native.Nat.{ℕ, _%_, _^_}
 use lib.Dec.{ltb}
 use lib.Ieee.{Float, binary32, ofBits}
-use lib.ListN.{length}
 use lib.IntN.{ℤ}
 use mir.Syntax.{w32}
 use mir.Val.{toZ}
-use Rattle.picture.specs.Build.{build}
 
 -- the lower 32 bits
 abbrev pub wordOf : ℕ → ℕ
@@ -27,19 +25,15 @@ floatOf x = ofBits binary32 (wordOf x)
 abbrev pub byteOf : ℕ → ℕ
 byteOf x = x % 256
 
--- each number is below a bound
-unfoldable pub allBelow : List ℕ → ℕ → Bool
-allBelow [] bound = true
-allBelow (x ∷ v) bound = ltb x bound && allBelow v bound
+-- a length that a buffer has room for, or 0
+abbrev pub lengthOf : ℕ → ℕ
+lengthOf x = cond (ltb 512 x) 0 x
 
--- byte i of a work buffer whose first bytes are cleared
-abbrev pub workByte : ℕ → ℕ → ℕ
-workByte zeros i = cond (ltb i zeros) 0 (i % 251 + 1)
+-- each number is below a bound
+unfoldable pub allUnder : List ℕ → ℕ → Bool
+allUnder [] bound = true
+allUnder (x ∷ v) bound = ltb x bound && allUnder v bound
 
 -- the answer of a test
 abbrev pub tells : Bool → Type 0 → Type 0
 tells r fact = (r ≡ true → fact) × (fact → r ≡ true)
-
--- a work buffer of which exactly the first bytes are cleared, and the others are as they were filled
-abbrev pub clearedWork : ℕ → List ℕ → Type 0
-clearedWork zeros work = (zeros ≤ length work) × (work ≡ build (length work) (workByte zeros))

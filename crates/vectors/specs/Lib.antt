@@ -1,2 +1,0 @@
--- Where the parts of a vector lie.
-pub mod Parts
