@@ -1,5 +1,3 @@
--- Numbers in a text, what a vector's numbers stand for, where its lists lie, and the buffers made of them.
+-- Numbers in a text, and what a vector's numbers stand for.
 pub mod Numerals
 pub mod Values
-pub mod Parts
-pub mod Buffers

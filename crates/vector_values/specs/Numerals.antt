@@ -32,6 +32,11 @@ numeralAt text at =
     (Number (valueOn 0 (drop at text)) (at + digits (drop at text)))
     Broken
 
+-- a number that was read, or 0
+abbrev pub valueIn : Reading → ℕ
+valueIn (Number value end) = value
+valueIn Broken = 0
+
 -- how many bytes stand before the first newline, or the text's end
 unfoldable pub lineLength : List ℕ → ℕ
 lineLength [] = 0

@@ -1,6 +1,4 @@
-// The numbers of a stored vector: as text, what they stand for, where its lists lie, and buffers filled and compared with them.
-pub mod buffers;
+// The numbers of a stored vector: as text, by their places, and what they stand for.
 pub mod head;
-pub mod parts;
 pub mod text;
 pub mod values;

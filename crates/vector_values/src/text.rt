@@ -3,14 +3,14 @@ ghost use mathlib.Core.Path.{_≡_};
 ghost use Prim.Native.Nat.{_≤_, _<_};
 ghost use lib.ListN.{length};
 ghost use lib.Dec.{ltb};
-ghost use Rattle.vector_values.specs.Numerals.{digitOf, pick, numeralAt, lineEnd};
+ghost use Rattle.vector_values.specs.Numerals.{digitOf, pick, numeralAt, valueIn, lineEnd};
 
 // The most numbers of a line.
-pub const MOST_NUMBERS: usize = 1024;
+pub const MOST_NUMBERS: usize = 4096;
 
 // A buffer for the numbers of a line. Only its length is promised, as of `io::buffer`.
 pub fn buffer() -> [u64; MOST_NUMBERS]
-    ensures { λ r. ⌜ 1024 ≡ length r ⌝ }
+    ensures { λ r. ⌜ 4096 ≡ length r ⌝ }
 {
     [0; MOST_NUMBERS]
 }
@@ -80,6 +80,16 @@ pub fn line_end(text: &[u8], at: usize) -> usize
         i += 1;
     }
     i
+}
+
+// The number that a line begins with, or 0.
+pub fn first(line: &[u8]) -> u64
+    ensures { λ r. ⌜ r ≡ valueIn (numeralAt (now (line .entry)) 0) ⌝ }
+{
+    match numeral(line, 0) {
+        Reading::Number { value, end: _ } => value,
+        Reading::Broken => 0,
+    }
 }
 
 // Takes the numbers of a line, and answers how many there are, or 0 where the line is broken or too long.

@@ -1,3 +1,20 @@
-// A stored vector: whether the library does what it says.
-pub mod filters;
-pub mod replies;
+// Whether the library does what a stored vector says. The functions stand by what they are lent, each family in a module that
+// fills its buffers, makes the call and compares what is left.
+mod kernels;
+mod pictures;
+
+use vector_parts::shape;
+use vector_values::head;
+
+// Whether the library does what a vector says; no for one that is broken.
+pub fn agrees(v: &[u64]) -> bool {
+    if !shape::whole(v) {
+        return false;
+    }
+    match head::number(v, 0) {
+        1 | 3 | 9 => vector_filters::agrees(v),
+        2 | 4..=6 | 8 => pictures::agrees(v),
+        7 => kernels::agrees(v),
+        _ => false,
+    }
+}

@@ -1,0 +1,108 @@
+// The functions that are lent work buffers.
+use corbelrush::filters;
+use corbelrush::plates;
+use vector_parts::buffers;
+use vector_parts::parts;
+use vector_parts::replies;
+use vector_parts::replies::Reply;
+use vector_values::head;
+use vector_values::values::LONGEST;
+
+fn blur(v: &[u64], picture: &mut [u8], scratch: &mut [u8], weights: &[f32]) -> Reply {
+    let w = head::word(v, 1);
+    let h = head::word(v, 2);
+    let n = head::word(v, 3);
+    let edge = head::word(v, 4);
+    let strength = head::float(v, 5);
+    replies::plain(filters::corbelrush_blur(picture, w, h, scratch, weights, n, strength, edge))
+}
+
+fn shadow(
+    v: &[u64],
+    picture: &mut [u8],
+    scratch: &mut [u8],
+    copy: &mut [u8],
+    weights: &[f32],
+) -> Reply {
+    replies::plain(filters::corbelrush_shadow(
+        picture,
+        head::word(v, 1),
+        head::word(v, 2),
+        scratch,
+        copy,
+        weights,
+        head::word(v, 3),
+        head::word(v, 4),
+        head::float(v, 6),
+        head::float(v, 7),
+        head::float(v, 5),
+        head::float(v, 8),
+        head::float(v, 9),
+        head::float(v, 10),
+        head::float(v, 11),
+        head::word(v, 12),
+    ))
+}
+
+fn plate_job(plate: &mut [u8], scratch: &mut [u8]) -> Reply {
+    replies::plain(plates::corbelrush_plate_job(plate, scratch))
+}
+
+fn call(
+    v: &[u64],
+    picture: &mut [u8],
+    scratch: &mut [u8],
+    copy: &mut [u8],
+    weights: &[f32],
+) -> Reply {
+    match head::number(v, 0) {
+        1 => blur(v, picture, scratch, weights),
+        3 => shadow(v, picture, scratch, copy, weights),
+        _ => plate_job(picture, scratch),
+    }
+}
+
+// Whether the reply and the lent buffers are as the vector says.
+fn left(
+    v: &[u64],
+    r: Reply,
+    picture: &[u8; LONGEST],
+    scratch: &[u8; LONGEST],
+    copy: &[u8; LONGEST],
+) -> bool {
+    if !replies::stored(v, r) {
+        return false;
+    }
+    if !buffers::bytes_left(v, parts::bytes(v), picture) {
+        return false;
+    }
+    if !buffers::work_left(head::number(v, 23), scratch) {
+        return false;
+    }
+    buffers::work_left(head::number(v, 24), copy)
+}
+
+// Whether the call does what the vector says.
+pub fn agrees(v: &[u64]) -> bool {
+    if !replies::alone(v) {
+        return false;
+    }
+    let bytes = parts::bytes(v);
+    let kernel = parts::weights(v);
+    let mut picture = buffers::bytes(v, bytes);
+    let mut scratch = buffers::work(0);
+    let mut copy = buffers::work(0);
+    let weights = buffers::floats(v, kernel);
+    let n = bytes.count;
+    let taps = kernel.count;
+    let first = head::length(v, 15);
+    let second = head::length(v, 16);
+    let r = call(
+        v,
+        &mut picture[0..n],
+        &mut scratch[0..first],
+        &mut copy[0..second],
+        &weights[0..taps],
+    );
+    left(v, r, &picture, &scratch, &copy)
+}

@@ -1,0 +1,4 @@
+-- Laws of the definitions of specs/, and of tests.
+pub mod Filled
+pub mod Reached
+pub mod Tested

@@ -1,0 +1,29 @@
+-- Numbers that are a vector: none is missing, left over or too large.
+use mathlib.Core.Bool.{Bool, _&&_}
+use mathlib.Core.List.{List}
+use Prim.Native.Nat.{ℕ, _^_}
+use lib.Dec.{eqb, leb}
+use lib.ListN.{length}
+use Rattle.vector_parts.specs.declared.parts.Part.{Part}
+use Rattle.vector_values.specs.Values.{allUnder}
+use Rattle.vector_parts.specs.Parts.{weightsPart, bytesPart, otherPart}
+use Rattle.vector_parts.specs.Buffers.{numbersFrom}
+
+-- n numbers from a place on are below a bound
+abbrev pub rangeUnder : List ℕ → ℕ → ℕ → ℕ → Bool
+rangeUnder v at n bound = allUnder (numbersFrom v at n) bound
+
+-- those of a list are, before the call and after it
+unfoldable pub partUnder : List ℕ → Part → ℕ → Bool
+partUnder v p bound = rangeUnder v (p .before) (p .count) bound && rangeUnder v (p .after) (p .count) bound
+
+-- numbers 0 to 18 and 22 to 24 have 32 bits; 15 and 16 are lengths of at most 512
+unfoldable pub headFits : List ℕ → Bool
+headFits v = rangeUnder v 0 19 (2 ^ 32) && (rangeUnder v 15 2 513 && rangeUnder v 22 3 (2 ^ 32))
+
+-- the lists end where the numbers do; weights have 32 bits, bytes and other 8
+unfoldable pub listsFit : List ℕ → Bool
+listsFit v = eqb (otherPart v .end) (length v) && (partUnder v (weightsPart v) (2 ^ 32) && (partUnder v (bytesPart v) 256 && partUnder v (otherPart v) 256))
+
+unfoldable pub wholeVector : List ℕ → Bool
+wholeVector v = leb 29 (length v) && (headFits v && listsFit v)

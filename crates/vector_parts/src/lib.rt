@@ -1,0 +1,5 @@
+// The parts of a stored vector: where its lists lie, buffers filled and compared with them, and what a call answers.
+pub mod buffers;
+pub mod parts;
+pub mod replies;
+pub mod shape;

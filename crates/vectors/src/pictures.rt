@@ -1,0 +1,101 @@
+// The functions that are lent a picture or a plate, and no other buffer.
+use corbelrush::filters;
+use corbelrush::grades;
+use corbelrush::plates;
+use vector_parts::buffers;
+use vector_parts::parts;
+use vector_parts::replies;
+use vector_parts::replies::Reply;
+use vector_parts::replies::UNSET;
+use vector_values::head;
+use vector_values::values;
+use vector_values::values::LONGEST;
+
+fn shift(v: &[u64], picture: &mut [u8]) -> Reply {
+    let w = head::word(v, 1);
+    let h = head::word(v, 2);
+    let dx = head::float(v, 6);
+    let dy = head::float(v, 7);
+    replies::plain(filters::corbelrush_shift(picture, w, h, dx, dy))
+}
+
+fn check(v: &[u64], picture: &[u8]) -> Reply {
+    let mut found = UNSET;
+    let mut place = UNSET as u64;
+    let w = head::word(v, 1);
+    let h = head::word(v, 2);
+    let number = grades::corbelrush_check(picture, w, h, &mut found, &mut place);
+    replies::two(number, found as u64, place)
+}
+
+fn view(v: &[u64], picture: &[u8]) -> Reply {
+    let w = head::word(v, 1);
+    let h = head::word(v, 2);
+    let edge = head::word(v, 4);
+    replies::plain(grades::corbelrush_view(picture, w, h, edge))
+}
+
+fn sample(v: &[u64], picture: &[u8]) -> Reply {
+    let w = head::word(v, 1);
+    let h = head::word(v, 2);
+    let edge = head::word(v, 4);
+    let x = values::signed(head::number(v, 13));
+    let y = values::signed(head::number(v, 14));
+    replies::plain(grades::corbelrush_sample(picture, w, h, edge, x, y))
+}
+
+fn plate_picture(v: &[u64], plate: &[u8]) -> Reply {
+    let mut w = UNSET;
+    let mut h = UNSET;
+    let mut offset = UNSET as u64;
+    let mut length = UNSET as u64;
+    let index = head::word(v, 13);
+    let number = plates::corbelrush_plate_picture(
+        plate,
+        index,
+        &mut w,
+        &mut h,
+        &mut offset,
+        &mut length,
+    );
+    Reply {
+        number,
+        first: w as u64,
+        second: h as u64,
+        third: offset,
+        fourth: length,
+    }
+}
+
+fn call(v: &[u64], picture: &mut [u8]) -> Reply {
+    match head::number(v, 0) {
+        2 => shift(v, picture),
+        4 => check(v, picture),
+        5 => view(v, picture),
+        6 => sample(v, picture),
+        _ => plate_picture(v, picture),
+    }
+}
+
+// Whether the reply and the buffer are as the vector says.
+fn left(v: &[u64], r: Reply, picture: &[u8; LONGEST]) -> bool {
+    if !replies::stored(v, r) {
+        return false;
+    }
+    buffers::bytes_left(v, parts::bytes(v), picture)
+}
+
+// Whether the call does what the vector says.
+pub fn agrees(v: &[u64]) -> bool {
+    if !replies::alone(v) {
+        return false;
+    }
+    if !replies::idle(v) {
+        return false;
+    }
+    let bytes = parts::bytes(v);
+    let n = bytes.count;
+    let mut picture = buffers::bytes(v, bytes);
+    let r = call(v, &mut picture[0..n]);
+    left(v, r, &picture)
+}
