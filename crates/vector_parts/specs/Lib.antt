@@ -1,5 +1,4 @@
--- Where the lists of a vector lie, what its buffers hold, and what makes it whole.
+-- Where the lists of a vector lie, what its buffers hold, and what a call answers.
 pub mod Parts
 pub mod Buffers
-pub mod Shape
 pub mod Replies

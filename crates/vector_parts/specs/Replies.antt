@@ -10,14 +10,14 @@ use Rattle.vector_parts.specs.Parts.{listPart, otherPart}
 abbrev pub reply : ℕ → ℕ → ℕ → ℕ → ℕ → Reply
 reply number first second third fourth = record { number = number; first = first; second = second; third = third; fourth = fourth }
 
--- the number is number 22 of the vector, and the out-parameters are 25 to 28
+-- two numbers stand at two places of a vector
+unfoldable pub pairAt : List ℕ → ℕ → ℕ → ℕ → ℕ → Bool
+pairAt v i a j b = eqb a (getD v i 0) && eqb b (getD v j 0)
+
+-- the out-parameters are numbers 25 to 28 of the vector, and the number is number 22
 unfoldable pub storedReply : List ℕ → Reply → Bool
 storedReply v r =
-    eqb (r .number) (getD v 22 0) && (eqb (r .first) (getD v 25 0) && (eqb (r .second) (getD v 26 0) && (eqb (r .third) (getD v 27 0) && eqb (r .fourth) (getD v 28 0))))
-
--- no byte of a work buffer is cleared
-unfoldable pub idleWork : List ℕ → Bool
-idleWork v = eqb (getD v 23 0) 0 && eqb (getD v 24 0) 0
+    pairAt v 25 (r .first) 26 (r .second) && (pairAt v 27 (r .third) 28 (r .fourth) && eqb (r .number) (getD v 22 0))
 
 -- there is no list, and no other buffer
 unfoldable pub noOther : List ℕ → Bool

@@ -2,4 +2,3 @@
 pub mod buffers;
 pub mod parts;
 pub mod replies;
-pub mod shape;

@@ -2,7 +2,7 @@
 use crate::parts;
 use vector_values::head;
 ghost use mathlib.Core.Path.{_≡_};
-ghost use Rattle.vector_parts.specs.Replies.{reply, storedReply, idleWork, noOther};
+ghost use Rattle.vector_parts.specs.Replies.{reply, pairAt, storedReply, noOther};
 
 // What an out-parameter holds before a call.
 pub const UNSET: u32 = 3735928559;
@@ -35,33 +35,34 @@ pub fn plain(number: u32) -> Reply
     two(number, 0, 0)
 }
 
+// Whether two numbers stand at two places.
+fn pair(v: &[u64], i: usize, a: u64, j: usize, b: u64) -> bool
+    ensures { λ r. ⌜ r ≡ pairAt (now (v .entry)) i a j b ⌝ }
+{
+    if a != head::number(v, i) {
+        return false;
+    }
+    b == head::number(v, j)
+}
+
 // Whether the number and the out-parameters are the stored ones.
 pub fn stored(v: &[u64], given: Reply) -> bool
     ensures { λ r. ⌜ r ≡ storedReply (now (v .entry)) given ⌝ }
 {
-    if given.number as u64 != head::number(v, 22) {
+    if !pair(v, 25, given.first, 26, given.second) {
         return false;
     }
-    if given.first != head::number(v, 25) {
+    if !pair(v, 27, given.third, 28, given.fourth) {
         return false;
     }
-    if given.second != head::number(v, 26) {
-        return false;
-    }
-    if given.third != head::number(v, 27) {
-        return false;
-    }
-    given.fourth == head::number(v, 28)
+    given.number as u64 == head::number(v, 22)
 }
 
 // Whether a vector says that no work buffer is cleared.
 pub fn idle(v: &[u64]) -> bool
-    ensures { λ r. ⌜ r ≡ idleWork (now (v .entry)) ⌝ }
+    ensures { λ r. ⌜ r ≡ pairAt (now (v .entry)) 23 0 24 0 ⌝ }
 {
-    if head::number(v, 23) != 0 {
-        return false;
-    }
-    head::number(v, 24) == 0
+    pair(v, 23, 0, 24, 0)
 }
 
 // Whether a vector has no list and no other buffer, as for a call that is lent neither.

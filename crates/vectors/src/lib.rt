@@ -2,8 +2,8 @@
 // fills its buffers, makes the call and compares what is left.
 mod kernels;
 mod pictures;
+mod shape;
 
-use vector_parts::shape;
 use vector_values::head;
 
 // Whether the library does what a vector says; no for one that is broken.

@@ -1,14 +1,14 @@
 // Whether some numbers are a vector: none is missing, left over or too large.
-use crate::buffers;
-use crate::parts;
-use crate::parts::HEAD;
-use crate::parts::Part;
+use vector_parts::buffers;
+use vector_parts::parts;
+use vector_parts::parts::HEAD;
+use vector_parts::parts::Part;
 use vector_values::values;
 ghost use mathlib.Core.Path.{_≡_};
 ghost use Prim.Native.Nat.{_+_, _≤_};
 ghost use lib.ListN.{length};
 ghost use Rattle.vector_parts.specs.Parts.{PartWithin};
-ghost use Rattle.vector_parts.specs.Shape.{rangeUnder, partUnder, headFits, listsFit, wholeVector};
+ghost use Rattle.vectors.specs.Shape.{rangeUnder, partUnder, headFits, listsFit, wholeVector};
 
 // Whether n numbers from a place on are below a bound.
 fn range_under(v: &[u64], at: usize, n: usize, bound: u64) -> bool

@@ -6,11 +6,11 @@ use borrow.Author.Needs.{needs}
 use borrow.Author.Tests.{eq-eqb, ne-eqb}
 use lib.Dec.{eqb}
 use lib.ListN.{length}
 use Rattle.vector_parts.specs.Parts.{weightsPart, bytesPart, otherPart}
-use Rattle.vector_parts.specs.Shape.{partUnder, listsFit}
+use Rattle.vectors.specs.Shape.{partUnder, listsFit}
 use Rattle.vector_parts.proofs.Tested.{passed, refused}
-use Rattle.vector_parts.proofs.shape.lists_fit.Statement.{statement}
-use Rattle.vector_parts.proofs.shape.lists_fit.Tie as tie
+use Rattle.vectors.proofs.shape.lists_fit.Statement.{statement}
+use Rattle.vectors.proofs.shape.lists_fit.Tie as tie
 
 returns : tie.Need-returns
 unfolding listsFit

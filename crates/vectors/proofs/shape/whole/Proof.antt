@@ -1,10 +1,10 @@
 -- Each test is one of the definition, in its order.
 use borrow.Author.Needs.{needs}
 use borrow.Author.Tests.{le-leb, lt-leb}
-use Rattle.vector_parts.specs.Shape.{wholeVector}
+use Rattle.vectors.specs.Shape.{wholeVector}
 use Rattle.vector_parts.proofs.Tested.{passed, refused}
-use Rattle.vector_parts.proofs.shape.whole.Statement.{statement}
-use Rattle.vector_parts.proofs.shape.whole.Tie as tie
+use Rattle.vectors.proofs.shape.whole.Statement.{statement}
+use Rattle.vectors.proofs.shape.whole.Tie as tie
 
 returns : tie.Need-returns
 unfolding wholeVector

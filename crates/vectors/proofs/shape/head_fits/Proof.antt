@@ -1,9 +1,9 @@
 -- Each test is one of the definition, in its order.
 use borrow.Author.Needs.{needs}
-use Rattle.vector_parts.specs.Shape.{headFits}
+use Rattle.vectors.specs.Shape.{headFits}
 use Rattle.vector_parts.proofs.Tested.{passed, refused}
-use Rattle.vector_parts.proofs.shape.head_fits.Statement.{statement}
-use Rattle.vector_parts.proofs.shape.head_fits.Tie as tie
+use Rattle.vectors.proofs.shape.head_fits.Statement.{statement}
+use Rattle.vectors.proofs.shape.head_fits.Tie as tie
 
 returns : tie.Need-returns
 unfolding headFits

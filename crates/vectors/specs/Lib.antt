@@ -1,0 +1,2 @@
+-- What makes some numbers a vector.
+pub mod Shape
