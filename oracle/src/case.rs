@@ -49,6 +49,17 @@ pub struct Case {
     /// The coordinates of a sample; x is also the index of a plate's picture.
     pub x: i32,
     pub y: i32,
+    /// A plate's version, or a picture's unit.
+    pub unit: u32,
+    pub sheet: u16,
+    /// The length in use.
+    pub used: u64,
+    pub place: u64,
+    pub second_place: u64,
+    /// A lent list: each entry's fields one after the other.
+    pub list: Vec<u64>,
+    /// A second lent buffer with content.
+    pub other: Vec<u8>,
 }
 
 #[derive(Clone, Debug, PartialEq)]
@@ -57,6 +68,8 @@ pub struct Outcome {
     pub picture: Vec<u8>,
     pub scratch: Vec<u8>,
     pub copy: Vec<u8>,
+    pub list: Vec<u64>,
+    pub other: Vec<u8>,
     /// The out-parameters in their order, those not taken 0.
     pub numbers: [u64; 4],
     /// A byte outside the lent buffers, or a lent weight, was changed.
@@ -83,6 +96,13 @@ impl Case {
             composite: 0,
             x: 0,
             y: 0,
+            unit: 0,
+            sheet: 0,
+            used: 0,
+            place: 0,
+            second_place: 0,
+            list: Vec::new(),
+            other: Vec::new(),
         }
     }
 
@@ -167,6 +187,8 @@ pub fn run(library: &Library, case: &Case) -> Outcome {
         picture: picture.content(),
         scratch: scratch.content(),
         copy: copy.content(),
+        list: lent.list,
+        other: lent.other,
         numbers,
         strayed: picture.strayed() || scratch.strayed() || copy.strayed() || !same_weights,
     }

@@ -19,6 +19,25 @@ fn after(length: usize, zeroed: usize) -> Vec<u8> {
     (0..length).map(|i| if i < zeroed { 0 } else { work(i) }).collect()
 }
 
+/// A line in the making.
+struct Line(Vec<u64>);
+
+impl Line {
+    /// The count, then the numbers.
+    fn counted<T: Copy + Into<u64>>(&mut self, values: &[T]) {
+        self.0.push(values.len() as u64);
+        self.0.extend(values.iter().map(|value| (*value).into()));
+    }
+
+    /// As `counted`, then 0 where the call leaves the numbers as they are, else 1 and the numbers afterwards.
+    fn lent<T: Copy + Into<u64> + PartialEq>(&mut self, before: &[T], after: &[T]) {
+        self.counted(before);
+        let changed = before != after;
+        self.0.push(changed.into());
+        self.0.extend(after.iter().filter(|_| changed).map(|value| (*value).into()));
+    }
+}
+
 fn write(case: &Case, outcome: &Outcome) -> String {
     let entry = ENTRIES.iter().position(|e| *e == case.entry).expect("an entry") as u32 + 1;
     let bits = |v: f32| v.to_bits();
@@ -26,17 +45,16 @@ fn write(case: &Case, outcome: &Outcome) -> String {
     head.extend([case.strength, case.dx, case.dy].map(bits));
     head.extend(case.colour.map(bits));
     head.extend([case.composite, case.x as u32, case.y as u32, case.scratch as u32, case.copy as u32]);
-    head.extend([outcome.answer, zeroed(&outcome.scratch) as u32, zeroed(&outcome.copy) as u32]);
-    let mut numbers: Vec<u64> = head.into_iter().map(u64::from).collect();
-    numbers.extend(outcome.numbers);
-    numbers.push(case.weights.len() as u64);
-    numbers.extend(case.weights.iter().map(|w| u64::from(bits(*w))));
-    numbers.push(case.picture.len() as u64);
-    numbers.extend(case.picture.iter().map(|b| u64::from(*b)));
-    let changed = outcome.picture != case.picture;
-    numbers.push(changed.into());
-    numbers.extend(outcome.picture.iter().filter(|_| changed).map(|b| u64::from(*b)));
-    let words: Vec<String> = numbers.iter().map(u64::to_string).collect();
+    head.extend([case.unit, case.sheet.into()]);
+    let mut line = Line(head.into_iter().map(u64::from).collect());
+    line.0.extend([case.used, case.place, case.second_place]);
+    line.0.extend([outcome.answer.into(), zeroed(&outcome.scratch) as u64, zeroed(&outcome.copy) as u64]);
+    line.0.extend(outcome.numbers);
+    line.counted(&case.weights.iter().map(|w| bits(*w)).collect::<Vec<u32>>());
+    line.lent(&case.list, &outcome.list);
+    line.lent(&case.picture, &outcome.picture);
+    line.lent(&case.other, &outcome.other);
+    let words: Vec<String> = line.0.iter().map(u64::to_string).collect();
     words.join(" ") + "\n"
 }
 
@@ -44,41 +62,57 @@ fn write(case: &Case, outcome: &Outcome) -> String {
 struct Numbers<'a>(std::str::SplitWhitespace<'a>);
 
 impl Numbers<'_> {
-    fn wide(&mut self) -> u64 {
-        self.0.next().and_then(|word| word.parse().ok()).expect("a number")
-    }
-
-    fn next(&mut self) -> u32 {
-        self.wide() as u32
+    /// A number that is not too large for its kind.
+    fn next<T: TryFrom<u64>>(&mut self) -> T {
+        let number: Option<u64> = self.0.next().and_then(|word| word.parse().ok());
+        number.and_then(|number| T::try_from(number).ok()).expect("a number of its kind")
     }
 
     fn float(&mut self) -> f32 {
         f32::from_bits(self.next())
     }
 
-    fn bytes(&mut self, count: u32) -> Vec<u8> {
-        (0..count).map(|_| self.next() as u8).collect()
+    /// A coordinate, modulo 2^32.
+    fn signed(&mut self) -> i32 {
+        self.next::<u32>() as i32
+    }
+
+    fn some<T: TryFrom<u64>>(&mut self, count: usize) -> Vec<T> {
+        (0..count).map(|_| self.next()).collect()
+    }
+
+    fn counted<T: TryFrom<u64>>(&mut self) -> Vec<T> {
+        let count = self.next();
+        self.some(count)
+    }
+
+    /// What a lent list or buffer holds before the call, and afterwards.
+    fn lent<T: TryFrom<u64> + Copy>(&mut self) -> (Vec<T>, Vec<T>) {
+        let before: Vec<T> = self.counted();
+        let changed = self.next::<u64>() == 1;
+        let after = if changed { self.some(before.len()) } else { before.clone() };
+        (before, after)
     }
 }
 
 fn read(line: &str) -> (Case, Outcome) {
     let mut from = Numbers(line.split_whitespace());
-    let mut case = Case::new(ENTRIES[from.next() as usize - 1], from.next(), from.next(), Vec::new());
+    let mut case = Case::new(ENTRIES[from.next::<usize>() - 1], from.next(), from.next(), Vec::new());
     (case.n, case.edge) = (from.next(), from.next());
     (case.strength, case.dx, case.dy) = (from.float(), from.float(), from.float());
     case.colour = [(); 4].map(|_| from.float());
-    (case.composite, case.x, case.y) = (from.next(), from.next() as i32, from.next() as i32);
-    (case.scratch, case.copy) = (from.next() as usize, from.next() as usize);
-    let (answer, scratch, copy) = (from.next(), from.next() as usize, from.next() as usize);
-    let numbers = [(); 4].map(|_| from.wide());
-    let weights = from.next();
-    case.weights = (0..weights).map(|_| from.float()).collect();
-    let length = from.next();
-    case.picture = from.bytes(length);
-    let changed = from.next() == 1;
-    let picture = if changed { from.bytes(length) } else { case.picture.clone() };
-    let (scratch, copy) = (after(case.scratch, scratch), after(case.copy, copy));
-    (case, Outcome { answer, picture, scratch, copy, numbers, strayed: false })
+    (case.composite, case.x, case.y) = (from.next(), from.signed(), from.signed());
+    (case.scratch, case.copy) = (from.next(), from.next());
+    (case.unit, case.sheet, case.used) = (from.next(), from.next(), from.next());
+    (case.place, case.second_place) = (from.next(), from.next());
+    let (answer, scratch, copy) = (from.next(), after(case.scratch, from.next()), after(case.copy, from.next()));
+    let numbers = [(); 4].map(|_| from.next());
+    case.weights = from.counted().into_iter().map(f32::from_bits).collect();
+    let (list, picture, other);
+    (case.list, list) = from.lent();
+    (case.picture, picture) = from.lent();
+    (case.other, other) = from.lent();
+    (case, Outcome { answer, picture, scratch, copy, list, other, numbers, strayed: false })
 }
 
 /// Whatever the entry does not take, at its default.
