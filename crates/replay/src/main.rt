@@ -3,11 +3,12 @@ use libc::STDIN_FILENO;
 use libc::STDOUT_FILENO;
 use vector_values::text;
 use vectors::agrees;
-use vectors::is_of;
+ghost use mathlib.Core.Path.{_≡_};
+ghost use lib.ListN.{length};
 ghost use Rattle.replay.specs.Counts.{OneMore};
 
 // The most bytes that the program takes.
-const LONGEST: usize = 262144;
+const LONGEST: usize = 1048576;
 
 // How many vectors of an entry there are, how many of them agree, and the line of the first that does not, or 0.
 struct Tally {
@@ -22,27 +23,28 @@ struct Seen {
     agreed: u64,
 }
 
-fn verdict(line: &[u8], entry: u64) -> Seen
+fn judged(v: &[u64]) -> Seen
     ensures { λ r. ⌜ OneMore (r .seen) (r .agreed) ⌝ }
 {
-    let mut space = text::buffer();
-    let n = text::numbers(line, &mut space);
-    judged(&space[0..n], entry)
-}
-
-fn judged(v: &[u64], entry: u64) -> Seen
-    ensures { λ r. ⌜ OneMore (r .seen) (r .agreed) ⌝ }
-{
-    if entry != 0 {
-        if !is_of(v, entry) {
-            return Seen { seen: 0, agreed: 0 };
-        }
-    }
     if agrees(v) {
         Seen { seen: 1, agreed: 1 }
     } else {
         Seen { seen: 1, agreed: 0 }
     }
+}
+
+// A line of another entry is read no further than its first number.
+fn verdict(line: &[u8], entry: u64) -> Seen
+    ensures { λ r. ⌜ OneMore (r .seen) (r .agreed) ⌝ }
+{
+    if entry != 0 {
+        if text::first(line) != entry {
+            return Seen { seen: 0, agreed: 0 };
+        }
+    }
+    let mut space = text::buffer();
+    let n = text::numbers(line, &mut space);
+    judged(&space[0..n])
 }
 
 // The line of the first vector that disagrees, after one line more.
@@ -121,9 +123,16 @@ fn report(input: &[u8]) {
     print_totals(count(input, 0));
 }
 
+// Room for one byte more than the program takes. Only its length is promised, as of `io::buffer`.
+fn room() -> [u8; LONGEST + 1]
+    ensures { λ r. ⌜ 1048577 ≡ length r ⌝ }
+{
+    [0; LONGEST + 1]
+}
+
 // One byte more than the program takes is read, so that no vector is left out unsaid.
 fn main() {
-    let mut input = [0u8; LONGEST + 1];
+    let mut input = room();
     let n = io::read_full(STDIN_FILENO, &mut input);
     if LONGEST < n {
         io::write_all(STDOUT_FILENO, b"the input is too long\n");
