@@ -1,7 +1,6 @@
-// Whether the library does what a stored vector says. The functions stand by what they are lent, each family in a module that
-// fills its buffers, makes the call and compares what is left.
+// Whether the library does what a stored vector says. The functions stand by what they are lent, each family in a crate or
+// module of its own that fills its buffers, makes the call and compares what is left.
 mod kernels;
-mod pictures;
 mod shape;
 
 use vector_values::head;
@@ -13,7 +12,7 @@ pub fn agrees(v: &[u64]) -> bool {
     }
     match head::number(v, 0) {
         1 | 3 | 9 => vector_filters::agrees(v),
-        2 | 4..=6 | 8 => pictures::agrees(v),
+        2 | 4..=6 | 8 => vector_pictures::agrees(v),
         7 => kernels::agrees(v),
         _ => false,
     }
