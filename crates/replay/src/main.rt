@@ -18,28 +18,28 @@ struct Tally {
 }
 
 // What a line adds to the counts of an entry. Entry 0 stands for every line, broken ones too.
-struct Seen {
+struct LineCount {
     seen: u64,
     agreed: u64,
 }
 
-fn judged(v: &[u64]) -> Seen
+fn judged(v: &[u64]) -> LineCount
     ensures { λ r. ⌜ OneMore (r .seen) (r .agreed) ⌝ }
 {
     if agrees(v) {
-        Seen { seen: 1, agreed: 1 }
+        LineCount { seen: 1, agreed: 1 }
     } else {
-        Seen { seen: 1, agreed: 0 }
+        LineCount { seen: 1, agreed: 0 }
     }
 }
 
 // A line of another entry is read no further than its first number.
-fn verdict(line: &[u8], entry: u64) -> Seen
+fn verdict(line: &[u8], entry: u64) -> LineCount
     ensures { λ r. ⌜ OneMore (r .seen) (r .agreed) ⌝ }
 {
     if entry != 0 {
         if text::first(line) != entry {
-            return Seen { seen: 0, agreed: 0 };
+            return LineCount { seen: 0, agreed: 0 };
         }
     }
     let mut space = text::buffer();
@@ -48,7 +48,7 @@ fn verdict(line: &[u8], entry: u64) -> Seen
 }
 
 // The line of the first vector that disagrees, after one line more.
-fn first_after(first: u64, line: u64, s: Seen) -> u64 {
+fn first_after(first: u64, line: u64, s: LineCount) -> u64 {
     if first == 0 {
         if s.agreed < s.seen {
             return line;

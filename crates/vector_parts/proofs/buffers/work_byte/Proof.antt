@@ -4,12 +4,6 @@ use borrow.Author.Tests.{lt-ltb, le-ltb}
 use Rattle.vector_parts.proofs.buffers.work_byte.Statement.{statement}
 use Rattle.vector_parts.proofs.buffers.work_byte.Tie as tie
 
-add-result : tie.Need-add-result
-add-result c = search needs
-
-cast-result : tie.Need-cast-result
-cast-result c = search needs
-
 returns : tie.Need-returns
 returns c = rw (lt-ltb _ _ (c .if1 .taken))
 
@@ -17,4 +11,4 @@ returns-2 : tie.Need-returns-2
 returns-2 c = rw (le-ltb _ _ (c .if1 .left))
 
 pub work-byte-spec : {M : Type 1} → statement M
-work-byte-spec = tie.close (tie.spec add-result cast-result returns returns-2)
+work-byte-spec = tie.close (tie.spec (λ c. search needs) (λ c. search needs) returns returns-2)

@@ -1,7 +1,5 @@
 -- The list counted there, and how it is changed.
-use mathlib.Core.Path.{_∙_, ap}
 use borrow.Author.Needs.{needs}
-use Rattle.vector_parts.specs.Parts.{nextPart, changedOf}
 use Rattle.vector_parts.proofs.Reached.{next-within}
 use Rattle.vector_parts.proofs.parts.next.Statement.{statement}
 use Rattle.vector_parts.proofs.parts.next.Tie as tie

@@ -14,12 +14,9 @@ returns-2 : tie.Need-returns-2
 unfolding digitOf
 returns-2 c = rw (le-leb 48 (c .before .before .args .c) (omega arith), lt-leb (c .before .before .args .c) 57 (omega arith))
 
-cast-result : tie.Need-cast-result
-cast-result c = search needs
-
 returns-3 : tie.Need-returns-3
 unfolding digitOf
 returns-3 c = rw (le-leb 48 (c .before .before .args .c) (omega arith), le-leb (c .before .before .args .c) 57 (omega arith))
 
 pub digit-spec : {M : Type 1} → statement M
-digit-spec = tie.close (tie.spec returns returns-2 cast-result returns-3)
+digit-spec = tie.close (tie.spec returns returns-2 (λ c. search needs) returns-3)

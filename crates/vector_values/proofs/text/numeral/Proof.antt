@@ -18,24 +18,12 @@ abbrev μ-loop : tie.MeasureT-loop
 loop-holds : tie.Need-loop-holds Inv-loop μ-loop
 loop-holds c = record { low = omega arith; high = omega arith; value-is = refl; digits-are = refl; held = omega arith }
 
-shared-slice-read-digit : tie.Need-shared-slice-read-digit Inv-loop μ-loop
-shared-slice-read-digit c = omega arith
-
-digit-requires : tie.Need-digit-requires Inv-loop μ-loop
-digit-requires c κs = search needs
-
-ended-requires : tie.Need-ended-requires Inv-loop μ-loop
-ended-requires c κs = search needs
-
 returns : tie.Need-returns Inv-loop μ-loop
 returns c =
     let l = c .before .before .before .before .before in
     let text = l .before .before .args .text .now in
     let h = rw (c .before .before .digit .ensures) at (c .before .if1 .taken) in
     c .ended .ensures ∙ stopped (l .loop .inv) (value-stops text (l .loop .i) (omega arith) (l .loop .value) h) (digits-stop text (l .loop .i) (omega arith) h)
-
-sub-if2 : tie.Need-sub-if2 Inv-loop μ-loop
-sub-if2 c = omega arith
 
 -- the digit at `i`, and what it makes of the number
 one-more : (c : tie.Else1 Inv-loop μ-loop) →
@@ -54,18 +42,6 @@ returns-2 c =
     let m = value-grows (drop (l .loop .i + 1) text) (l .loop .value * 10 + c .before .before .digit .result) in
     too-large (l .loop .inv) (omega (arith, one-more (c .before)))
 
-mul-value : tie.Need-mul-value Inv-loop μ-loop
-mul-value c = omega arith
-
-add-value : tie.Need-add-value Inv-loop μ-loop
-add-value c = omega arith
-
-add-i : tie.Need-add-i Inv-loop μ-loop
-add-i c = omega arith
-
-loop-less : tie.Need-loop-less Inv-loop μ-loop
-loop-less c = omega arith
-
 loop-again : tie.Need-loop-again Inv-loop μ-loop
 loop-again c =
     let l = c .before .before .before .before .before in
@@ -78,9 +54,6 @@ loop-again c =
       digits-are = omega arith;
       held = omega arith;
     }
-
-ended-requires-2 : tie.Need-ended-requires-2 Inv-loop μ-loop
-ended-requires-2 c κs = search needs
 
 returns-3 : tie.Need-returns-3 Inv-loop μ-loop
 returns-3 c =
@@ -95,16 +68,16 @@ numeral-spec =
     Inv-loop
     μ-loop
     loop-holds
-    shared-slice-read-digit
-    digit-requires
-    ended-requires
+    (λ c. omega arith)
+    (λ c κs. search needs)
+    (λ c κs. search needs)
     returns
-    sub-if2
+    (λ c. omega arith)
     returns-2
-    mul-value
-    add-value
-    add-i
-    loop-less
+    (λ c. omega arith)
+    (λ c. omega arith)
+    (λ c. omega arith)
+    (λ c. omega arith)
     loop-again
-    ended-requires-2
+    (λ c κs. search needs)
     returns-3)

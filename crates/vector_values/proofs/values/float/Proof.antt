@@ -6,9 +6,6 @@ use Rattle.vector_values.proofs.Patterns.{zero-over-zero, is-nan, no-na
 use Rattle.vector_values.proofs.values.float.Statement.{statement}
 use Rattle.vector_values.proofs.values.float.Tie as tie
 
-word-requires : tie.Need-word-requires
-word-requires c κs = search needs
-
 returns : tie.Need-returns
 returns c = zero-over-zero ∙ is-nan _ (rw (c .before .word .ensures) at (c .if1 .taken))
 
@@ -19,4 +16,4 @@ returns-2 : tie.Need-returns-2
 returns-2 c = ap (ofBits binary32) (c .before .word .ensures)
 
 pub float-spec : {M : Type 1} → statement M
-float-spec = tie.close (tie.spec word-requires returns float-from-bits-result returns-2)
+float-spec = tie.close (tie.spec (λ c κs. search needs) returns float-from-bits-result returns-2)

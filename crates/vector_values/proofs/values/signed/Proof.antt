@@ -12,20 +12,8 @@ use Rattle.vector_values.proofs.Patterns.{minus-one}
 use Rattle.vector_values.proofs.values.signed.Statement.{statement}
 use Rattle.vector_values.proofs.values.signed.Tie as tie
 
-word-requires : tie.Need-word-requires
-word-requires c κs = search needs
-
-cast-result : tie.Need-cast-result
-cast-result c = search needs
-
 returns : tie.Need-returns
 returns c = ap (toZ w32) (c .before .word .ensures)
-
-sub-result : tie.Need-sub-result
-sub-result c = search needs
-
-cast-result-2 : tie.Need-cast-result-2
-cast-result-2 c = search needs
 
 difference : (c : tie.Else1) → negsuc 0 -ℤ toZ w32 (4294967295 - c .before .word .result) ≡ negsuc (4294967295 - c .before .word .result)
 difference c =
@@ -44,4 +32,4 @@ returns-2 c =
 pub signed-spec : {M : Type 1} → statement M
 signed-spec =
     tie.close
-    (tie.spec word-requires cast-result returns sub-result cast-result-2 sub-result-2 returns-2)
+    (tie.spec (λ c κs. search needs) (λ c. search needs) returns (λ c. search needs) (λ c. search needs) sub-result-2 returns-2)
