@@ -1,16 +1,27 @@
 -- Laws of the table: an entry holds its fields, its place fits, and it lies within the table.
 use mathlib.Core.Path.{_≡_}
+use mathlib.Core.Bool.{true}
 use mathlib.Core.List.{List}
 use Prim.Native.Nat.{ℕ, _+_, _-_, _*_, _<_, _≤_}
 use native.Mathlib.Nat.{mul-le-mul}
 use native.Mathlib.Omega.{arith}
 use lib.ListN.{getD}
+use borrow.Author.Tests.{eqb-true}
 use Rattle.picture.proofs.Planes.{pixel-fits}
-use Rattle.plate_format.specs.Format.{u16At, u32At, version, count, entrySize, entryAt, entryOf}
+use Rattle.plate_format.specs.Format.{u16At, u32At, version, count, known, entrySize, largestWhole, entryAt, entryOf}
 
 pub entry-room : (v : ℕ) → (12 ≤ entrySize v) × (entrySize v ≤ 65536)
 unfolding entrySize
 entry-room v = omega arith
+
+-- a version that there is has room in two bytes, and its plates in four
+pub known-small : (v : ℕ) → known v ≡ true → v < 65536
+unfolding known
+known-small v h = omega (arith, eqb-true v 1 h)
+
+pub whole-small : (v : ℕ) → largestWhole v ≤ 16777216
+unfolding largestWhole
+whole-small v = omega arith
 
 pub place-fits : (i v : ℕ) → i < 65536 → i * entrySize v ≤ 4294967296
 place-fits i v l = mul-le-mul {n₁ = i} {m₁ = entrySize v} {n₂ = 65536} {m₂ = 65536} (omega arith) (entry-room v .1)
@@ -22,26 +33,36 @@ entry-inside file i n l =
     let room = entry-room (version file) in
     omega (arith, pixel-fits s n (s - 1) i (omega arith) l)
 
--- bytes that agree up to the table's end have one table
-module _ (a b : List ℕ) (n : ℕ) (same : (k : ℕ) → k < n → getD a k 0 ≡ getD b k 0) where
-  same-u16 : (at : ℕ) → at + 1 < n → u16At a at ≡ u16At b at
+-- bytes that agree from a to b have the same numbers there
+module _ (xs ys : List ℕ) (a b : ℕ) (same : (k : ℕ) → a ≤ k → k < b → getD xs k 0 ≡ getD ys k 0) where
+  pub same-u16 : (at : ℕ) → a ≤ at → at + 1 < b → u16At xs at ≡ u16At ys at
   unfolding u16At
-  same-u16 at l = rw (same at (omega arith), same (at + 1) l)
+  same-u16 at l m = rw (same at l (omega arith), same (at + 1) (omega arith) m)
 
-  same-u32 : (at : ℕ) → at + 3 < n → u32At a at ≡ u32At b at
+  same-u32 : (at : ℕ) → a ≤ at → at + 3 < b → u32At xs at ≡ u32At ys at
   unfolding u32At
-  same-u32 at l = rw (same-u16 at (omega arith), same-u16 (at + 2) (omega arith))
+  same-u32 at l m = rw (same-u16 at l (omega arith), same-u16 (at + 2) (omega arith) (omega arith))
 
-  module _ (table : entryAt b (count b) ≤ n) where
-    pub same-count : count a ≡ count b
-    same-count = same-u16 2 (omega arith)
+  -- an entry of one version whose bytes lie there
+  pub entry-same : version xs ≡ version ys → (i : ℕ) → a ≤ entryAt ys i → entryAt ys i + entrySize (version ys) ≤ b → entryOf xs i ≡ entryOf ys i
+  unfolding entryOf
+  entry-same v i l m =
+      let room = entry-room (version ys) in
+      rw (v, same-u16 (entryAt ys i) l (omega arith), same-u16 (entryAt ys i + 2) (omega arith) (omega arith), same-u32 (entryAt ys i + 4) (omega arith) (omega arith), same-u32 (entryAt ys i + 8) (omega arith) (omega arith))
 
-    pub same-entry-at : (i : ℕ) → entryAt a i ≡ entryAt b i
-    same-entry-at i = rw (same-u16 0 (omega arith))
+-- bytes that agree up to the table's end have one table
+module _ (a b : List ℕ) (n : ℕ) (same : (k : ℕ) → k < n → getD a k 0 ≡ getD b k 0) (table : entryAt b (count b) ≤ n) where
+  first : (at : ℕ) → at + 1 < n → u16At a at ≡ u16At b at
+  first at l = same-u16 a b 0 n (λ k _ m. same k m) at (omega arith) l
 
-    pub same-entry : (i : ℕ) → i < count b → entryOf a i ≡ entryOf b i
-    unfolding entryOf
-    same-entry i l =
-        let room = entry-room (version b) in
-        let inside = entry-inside b i (count b) l in
-        rw (same-entry-at i, same-u16 (entryAt b i) (omega arith), same-u16 (entryAt b i + 2) (omega arith), same-u32 (entryAt b i + 4) (omega arith), same-u32 (entryAt b i + 8) (omega arith))
+  pub same-version : version a ≡ version b
+  same-version = first 0 (omega arith)
+
+  pub same-count : count a ≡ count b
+  same-count = first 2 (omega arith)
+
+  pub same-entry-at : (i : ℕ) → entryAt a i ≡ entryAt b i
+  same-entry-at i = rw same-version
+
+  pub same-entry : (i : ℕ) → i < count b → entryOf a i ≡ entryOf b i
+  same-entry i l = entry-same a b 0 n (λ k _ m. same k m) same-version i (omega arith) (omega (arith, entry-inside b i (count b) l))

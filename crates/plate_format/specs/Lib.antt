@@ -1,3 +1,4 @@
 -- The definitions that contracts cite of a plate file.
 pub mod Format
+pub mod Written
 pub mod Needs

@@ -2,14 +2,14 @@
 ghost use mathlib.Core.Path.{_≡_};
 ghost use Prim.Native.Nat.{_+_, _<_, _≤_};
 ghost use lib.ListN.{length};
-ghost use Rattle.plate_format.specs.Format.{u16At, u32At, count, known, entrySize, largestWhole, entryAt, entryOf, bodyOffset, obeys, filled, isPlate};
+ghost use Rattle.plate_format.specs.Format.{u16At, u32At, version, count, known, entrySize, largestWhole, entryAt, entryOf, bodyOffset, obeys, filled, isPlate};
 ghost use Rattle.plate_format.specs.Needs.{Tabled};
 
 // The version and the count stand in the first bytes, and the table after them.
-const HEADER: usize = 4;
+pub const HEADER: usize = 4;
 
 // The most pictures of a plate.
-const MAX_COUNT: usize = 64;
+pub const MAX_COUNT: usize = 64;
 
 // One entry of the table, as the file has it.
 pub struct Entry {
@@ -35,6 +35,14 @@ fn u32_at(file: &[u8], at: usize) -> u32
     u16_at(file, at) as u32 + 65536 * u16_at(file, at + 2) as u32
 }
 
+// Which version the plate says it is of.
+pub fn version(file: &[u8]) -> u16
+    requires { ⌜ 4 ≤ length (now file) ⌝ }
+    ensures { λ r. ⌜ r ≡ version (now (file .entry)) ⌝ }
+{
+    u16_at(file, 0)
+}
+
 // How many pictures the plate says it has.
 pub fn count(file: &[u8]) -> usize
     requires { ⌜ 4 ≤ length (now file) ⌝ }
@@ -44,32 +52,32 @@ pub fn count(file: &[u8]) -> usize
 }
 
 // Whether there is such a version of the plate file.
-fn known(v: u16) -> bool
+pub fn known(v: u32) -> bool
     ensures { λ r. ⌜ r ≡ known v ⌝ }
 {
     v == 1
 }
 
 // How many bytes an entry of this version's table has.
-fn entry_size(v: u16) -> usize
+pub fn entry_size(v: u16) -> usize
     ensures { λ r. ⌜ r ≡ entrySize v ⌝ }
 {
     12
 }
 
 // The most bytes that a plate of this version has.
-fn largest_whole(v: u16) -> usize
+pub fn largest_whole(v: u16) -> usize
     ensures { λ r. ⌜ r ≡ largestWhole v ⌝ }
 {
     16384
 }
 
 // Where entry i of the table stands.
-fn entry_at(file: &[u8], i: usize) -> usize
+pub fn entry_at(file: &[u8], i: usize) -> usize
     requires { ⌜ (4 ≤ length (now file)) × (i < 65536) ⌝ }
     ensures { λ r. ⌜ r ≡ entryAt (now (file .entry)) i ⌝ }
 {
-    HEADER + i * entry_size(u16_at(file, 0))
+    HEADER + i * entry_size(version(file))
 }
 
 // Where the table ends and the first body starts.
@@ -114,7 +122,7 @@ fn filled(file: &[u8]) -> bool
     requires { ⌜ Tabled (now file) ⌝ }
     ensures { λ r. ⌜ r ≡ filled (now (file .entry)) ⌝ }
 {
-    let v = u16_at(file, 0);
+    let v = version(file);
     let n = count(file);
     let mut start = table_end(file);
     let mut i = 0;
@@ -136,8 +144,8 @@ pub fn is_plate(file: &[u8]) -> bool
     if file.len() < HEADER {
         return false;
     }
-    let v = u16_at(file, 0);
-    if !known(v) {
+    let v = version(file);
+    if !known(v as u32) {
         return false;
     }
     let n = count(file);

@@ -32,7 +32,7 @@ asked : (c : tie.After-obeys Inv-loop μ-loop) →
 asked c =
     let e = c .before in
     let at = e .before .before in
-    c .obeys .ensures ∙ rw (at .before .before .before .u16-at .ensures, at .loop .inv .1, e .read-entry .ensures)
+    c .obeys .ensures ∙ rw (at .before .before .before .version .ensures, at .loop .inv .1, e .read-entry .ensures)
 
 returns : tie.Need-returns Inv-loop μ-loop
 returns c =

@@ -17,7 +17,7 @@ returns-2 : tie.Need-returns-2
 returns-2 c =
     refuted _
     (λ h.
-    true≢false (sym (rules _ h .version-is) ∙ ap known (sym (c .before .before .u16-at .ensures)) ∙ sym (c .before .known .ensures) ∙ not-true _ (c .if2 .taken)))
+    true≢false (sym (rules _ h .version-is) ∙ ap known (sym (c .before .before .version .ensures)) ∙ sym (c .before .known .ensures) ∙ not-true _ (c .if2 .taken)))
 
 returns-3 : tie.Need-returns-3
 unfolding maxCount
@@ -26,7 +26,7 @@ returns-3 c = refuted _ (λ h. let z : ⊥ = omega (arith, rules _ h .few, c .be
 -- the most bytes that this plate may have
 limit : (c : tie.After-largest-whole) →
     c .largest-whole .result ≡ largestWhole (version (c .before .before .before .before .before .before .before .before .args .file .now))
-limit c = c .largest-whole .ensures ∙ ap largestWhole (c .before .before .before .before .before .u16-at .ensures)
+limit c = c .largest-whole .ensures ∙ ap largestWhole (c .before .before .before .before .before .version .ensures)
 
 returns-4 : tie.Need-returns-4
 returns-4 c = refuted _ (λ h. let z : ⊥ = omega (arith, rules _ h .whole, limit (c .before)) in z)
@@ -51,7 +51,7 @@ returns-6 c =
     let n = l .before .before in
     let k = n .before .before in
     c .filled .ensures
-    ∙ decides _ (ap known (sym (k .before .u16-at .ensures)) ∙ sym (k .known .ensures) ∙ not-false _ (n .before .if2 .left)) (omega (arith, n .count .ensures)) (omega (arith, limit l))
+    ∙ decides _ (ap known (sym (k .before .version .ensures)) ∙ sym (k .known .ensures) ∙ not-false _ (n .before .if2 .left)) (omega (arith, n .count .ensures)) (omega (arith, limit l))
 
 pub is-plate-spec : {M : Type 1} → statement M
 is-plate-spec =
@@ -59,6 +59,7 @@ is-plate-spec =
     (tie.spec
     returns
     (λ c κs. search needs)
+    (λ c. search needs)
     (λ c κs. search needs)
     returns-2
     (λ c κs. search needs)

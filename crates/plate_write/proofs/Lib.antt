@@ -1,0 +1,6 @@
+-- Laws of writing plates.
+pub mod Laid
+pub mod Room
+pub mod Settle
+pub mod Retabled
+pub mod Appended

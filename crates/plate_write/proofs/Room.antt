@@ -1,0 +1,45 @@
+-- Laws of room: what checks 1 and 13 leave, and how long a plate with one picture more is.
+use mathlib.Core.Path.{_≡_}
+use mathlib.Core.Bool.{true, false, _||_}
+use mathlib.Core.List.{List}
+use Prim.Native.Nat.{ℕ, _+_, _<_, _≤_}
+use native.Mathlib.Omega.{arith}
+use lib.Dec.{ltb}
+use lib.ListN.{length}
+use borrow.Author.Tests.{ltb-false}
+use Rattle.picture.specs.Refusal.{wrongSides}
+use Rattle.picture.specs.Sizes.{maxSide}
+use Rattle.picture.proofs.Conditions.{right-sides}
+use Rattle.picture.proofs.Tests.{neither}
+use Rattle.plate_format.specs.Format.{version, count, maxCount, largestWhole, isPlate}
+use Rattle.plate_format.proofs.Rules.{rules}
+use Rattle.plate_format.proofs.Table.{whole-small}
+use Rattle.plate_write.specs.Added.{lengthAfter, noRoom}
+
+-- sides that check 1 lets through have room in two bytes
+pub side-small : (w h : ℕ) → wrongSides w h ≡ false → (w < 65536) × (h < 65536)
+unfolding maxSide
+side-small w h e = let s = right-sides w h .0 e in (omega (arith, s .0 .high), omega (arith, s .1 .high))
+
+-- a plate has room in four bytes
+pub plate-small : (file : List ℕ) → isPlate file ≡ true → length file ≤ 16777216
+plate-small file p = omega (arith, rules file p .whole, whole-small (version file))
+
+module _ (room : ℕ) (file : List ℕ) (w h : ℕ) where
+  -- what check 13 leaves: a place in the table, in the version's bytes, and in the buffer
+  pub record Roomy : Type 0 where
+    pub few : count file < maxCount
+    pub whole : lengthAfter file w h ≤ largestWhole (version file)
+    pub fits : lengthAfter file w h ≤ room
+
+  pub roomy : noRoom room file w h ≡ false → Roomy
+  unfolding noRoom
+  roomy e =
+      let after : ℕ = lengthAfter file w h in
+      let n = neither (ltb maxCount (count file + 1)) (ltb (largestWhole (version file)) after || ltb room after) e in
+      let m = neither (ltb (largestWhole (version file)) after) (ltb room after) (n .1) in
+      record {
+        few = omega (arith, ltb-false maxCount (count file + 1) (n .0));
+        whole = ltb-false (largestWhole (version file)) after (m .0);
+        fits = ltb-false room after (m .1);
+      }

@@ -1,0 +1,64 @@
+-- Laws of what starting and adding answer in each case of their checks.
+use mathlib.Core.Path.{_≡_}
+use mathlib.Core.Bool.{true, false, not}
+use mathlib.Core.List.{List}
+use Prim.Native.Nat.{ℕ, _≤_}
+use lib.Dec.{ltb}
+use lib.ListN.{length}
+use borrow.Author.Tests.{ltb-false, not-false}
+use Rattle.picture.specs.Answer.{answered, settled}
+use Rattle.picture.specs.Planes.{laid}
+use Rattle.picture.specs.Refusal.{firstElse, firstOf, wrongSides, wrongLength}
+use Rattle.picture.proofs.Tests.{neither}
+use Rattle.plate_format.specs.Format.{known, isPlate}
+use Rattle.plate_write.specs.Added.{emptyPlate, added, lengthAfter, noRoom}
+use Rattle.plate_write.specs.Outcome.{grown, inUse, noPlate, startOutcome, addOutcome}
+
+module _ (buffer : List ℕ) (v : ℕ) where
+  pub unknown : known v ≡ false → answered 10 (grown buffer 0) ≡ startOutcome buffer v
+  unfolding startOutcome firstOf firstElse settled
+  unknown k = rw k
+
+  pub too-small : known v ≡ true → ltb (length buffer) 4 ≡ true → answered 13 (grown buffer 0) ≡ startOutcome buffer v
+  unfolding startOutcome firstOf firstElse settled
+  too-small k r = rw (k, r)
+
+  pub started : known v ≡ true → ltb (length buffer) 4 ≡ false → answered 0 (grown (laid (emptyPlate v) buffer) 4) ≡ startOutcome buffer v
+  unfolding startOutcome firstOf firstElse settled
+  started k r = rw (k, r)
+
+module _ (buffer : List ℕ) (used : ℕ) (picture : List ℕ) (w h : ℕ) where
+  pub no-plate : noPlate buffer used ≡ true → answered 10 (grown buffer 0) ≡ addOutcome buffer used picture w h
+  unfolding addOutcome firstOf firstElse settled
+  no-plate p = rw p
+
+  module _ (p : noPlate buffer used ≡ false) where
+    pub wrong-sides : wrongSides w h ≡ true → answered 1 (grown buffer 0) ≡ addOutcome buffer used picture w h
+    unfolding addOutcome firstOf firstElse settled
+    wrong-sides s = rw (p, s)
+
+    module _ (s : wrongSides w h ≡ false) where
+      pub wrong-length : wrongLength (length picture) w h ≡ true → answered 2 (grown buffer 0) ≡ addOutcome buffer used picture w h
+      unfolding addOutcome firstOf firstElse settled
+      wrong-length l = rw (p, s, l)
+
+      module _ (l : wrongLength (length picture) w h ≡ false) where
+        pub no-room : noRoom (length buffer) (inUse buffer used) w h ≡ true → answered 13 (grown buffer 0) ≡ addOutcome buffer used picture w h
+        unfolding addOutcome firstOf firstElse settled
+        no-room r = rw (p, s, l, r)
+
+        pub add-done : noRoom (length buffer) (inUse buffer used) w h ≡ false →
+            answered 0 (grown (laid (added (inUse buffer used) w h picture) buffer) (lengthAfter (inUse buffer used) w h)) ≡ addOutcome buffer used picture w h
+        unfolding addOutcome firstOf firstElse settled
+        add-done r = rw (p, s, l, r)
+
+-- what check 10 leaves: the stretch lies within the buffer, and it is a plate
+pub record InPlate (buffer : List ℕ) (used : ℕ) : Type 0 where
+  pub inside : used ≤ length buffer
+  pub is-plate : isPlate (inUse buffer used) ≡ true
+
+pub in-plate : (buffer : List ℕ) (used : ℕ) → noPlate buffer used ≡ false → InPlate buffer used
+unfolding noPlate
+in-plate buffer used e =
+    let n = neither (ltb (length buffer) used) (not (isPlate (inUse buffer used))) e in
+    record { inside = ltb-false (length buffer) used (n .0); is-plate = not-false (isPlate (inUse buffer used)) (n .1) }
