@@ -19,9 +19,9 @@ pub known-small : (v : ℕ) → known v ≡ true → v < 65536
 unfolding known
 known-small v h = omega (arith, eqb-true v 1 h)
 
-pub whole-small : (v : ℕ) → largestWhole v ≤ 16777216
+pub whole-small : (v : ℕ) → (4 ≤ largestWhole v) × (largestWhole v ≤ 16777216)
 unfolding largestWhole
-whole-small v = omega arith
+whole-small v = (omega arith, omega arith)
 
 pub place-fits : (i v : ℕ) → i < 65536 → i * entrySize v ≤ 4294967296
 place-fits i v l = mul-le-mul {n₁ = i} {m₁ = entrySize v} {n₂ = 65536} {m₂ = 65536} (omega arith) (entry-room v .1)

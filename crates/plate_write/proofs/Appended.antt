@@ -63,7 +63,7 @@ module _ {buffer : List ℕ} {used w h : ℕ} {picture : List ℕ} (ready : Addi
 
   -- what the new entry needs
   pub new-fits : (4 ≤ length file) × (wrongSides w h ≡ false) × (lengthAfter file w h < 4294967296)
-  new-fits = (omega (arith, tabled .inside), ready .sides, omega (arith, room .whole, whole-small (version file)))
+  new-fits = (omega (arith, tabled .inside), ready .sides, omega (arith, room .whole, whole-small (version file) .1))
 
   -- how long the plate will be
   pub length-is : {start : ℕ} → start ≡ used + size → start + length picture ≡ lengthAfter file w h

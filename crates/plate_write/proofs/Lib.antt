@@ -4,3 +4,6 @@ pub mod Room
 pub mod Settle
 pub mod Retabled
 pub mod Appended
+pub mod Back
+pub mod Empty
+pub mod ReadsBack

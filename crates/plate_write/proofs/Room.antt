@@ -23,7 +23,7 @@ side-small w h e = let s = right-sides w h .0 e in (omega (arith, s .0 .high), o
 
 -- a plate has room in four bytes
 pub plate-small : (file : List ℕ) → isPlate file ≡ true → length file ≤ 16777216
-plate-small file p = omega (arith, rules file p .whole, whole-small (version file))
+plate-small file p = omega (arith, rules file p .whole, whole-small (version file) .1)
 
 module _ (room : ℕ) (file : List ℕ) (w h : ℕ) where
   -- what check 13 leaves: a place in the table, in the version's bytes, and in the buffer

@@ -1,18 +1,22 @@
 -- Laws of what starting and adding answer in each case of their checks.
-use mathlib.Core.Path.{_≡_}
+use mathlib.Core.Path.{_≡_, refl}
 use mathlib.Core.Bool.{true, false, not}
 use mathlib.Core.List.{List}
 use Prim.Native.Nat.{ℕ, _≤_}
+use native.Mathlib.Omega.{arith}
 use lib.Dec.{ltb}
 use lib.ListN.{length}
 use borrow.Author.Tests.{ltb-false, not-false}
 use Rattle.picture.specs.Answer.{answered, settled}
 use Rattle.picture.specs.Planes.{laid}
 use Rattle.picture.specs.Refusal.{firstElse, firstOf, wrongSides, wrongLength}
+use Rattle.picture.proofs.Conditions.{each-passes, right-length}
+use Rattle.picture.proofs.Settled.{read}
 use Rattle.picture.proofs.Tests.{neither}
 use Rattle.plate_format.specs.Format.{known, isPlate}
 use Rattle.plate_write.specs.Added.{emptyPlate, added, lengthAfter, noRoom}
-use Rattle.plate_write.specs.Outcome.{grown, inUse, noPlate, startOutcome, addOutcome}
+use Rattle.plate_write.specs.Outcome.{Grown, grown, inUse, noPlate, startChecks, startOutcome, addChecks, addOutcome}
+use Rattle.plate_write.specs.Steps.{Adding}
 
 module _ (buffer : List ℕ) (v : ℕ) where
   pub unknown : known v ≡ false → answered 10 (grown buffer 0) ≡ startOutcome buffer v
@@ -26,6 +30,14 @@ module _ (buffer : List ℕ) (v : ℕ) where
   pub started : known v ≡ true → ltb (length buffer) 4 ≡ false → answered 0 (grown (laid (emptyPlate v) buffer) 4) ≡ startOutcome buffer v
   unfolding startOutcome firstOf firstElse settled
   started k r = rw (k, r)
+
+  -- a start that answers 0 named a version there is, and leaves its header
+  pub start-accepted : (left : Grown) → answered 0 left ≡ startOutcome buffer v → (known v ≡ true) × (left ≡ grown (laid (emptyPlate v) buffer) 4)
+  unfolding startOutcome
+  start-accepted left e =
+      let t = read (firstOf (startChecks (length buffer) v)) (grown buffer 0) _ 0 left e in
+      let passes = each-passes (startChecks (length buffer) v) (omega arith, (omega arith, tt)) .0 (t .number) in
+      (not-false (known v) (passes .0), t .finished refl)
 
 module _ (buffer : List ℕ) (used : ℕ) (picture : List ℕ) (w h : ℕ) where
   pub no-plate : noPlate buffer used ≡ true → answered 10 (grown buffer 0) ≡ addOutcome buffer used picture w h
@@ -62,3 +74,25 @@ unfolding noPlate
 in-plate buffer used e =
     let n = neither (ltb (length buffer) used) (not (isPlate (inUse buffer used))) e in
     record { inside = ltb-false (length buffer) used (n .0); is-plate = not-false (isPlate (inUse buffer used)) (n .1) }
+
+-- a call that answers 0 passed every check, and leaves the plate with one picture more
+pub record Accepted (buffer : List ℕ) (used : ℕ) (picture : List ℕ) (w h : ℕ) (left : Grown) : Type 0 where
+  pub adding : Adding buffer used w h picture
+  pub is : left ≡ grown (laid (added (inUse buffer used) w h picture) buffer) (lengthAfter (inUse buffer used) w h)
+
+pub add-accepted : (buffer : List ℕ) (used : ℕ) (picture : List ℕ) (w h : ℕ) (left : Grown) → answered 0 left ≡ addOutcome buffer used picture w h → Accepted buffer used picture w h left
+unfolding addOutcome
+add-accepted buffer used picture w h left e =
+    let t = read (firstOf (addChecks buffer used (length picture) w h)) (grown buffer 0) _ 0 left e in
+    let passes = each-passes (addChecks buffer used (length picture) w h) (omega arith, (omega arith, (omega arith, (omega arith, tt)))) .0 (t .number) in
+    let s = in-plate buffer used (passes .0) in
+    record {
+      adding = record {
+        inside = s .inside;
+        plate = s .is-plate;
+        sides = passes .1 .0;
+        exact = right-length (length picture) w h .0 (passes .1 .1 .0);
+        room = passes .1 .1 .1 .0;
+      };
+      is = t .finished refl;
+    }

@@ -2,3 +2,4 @@
 pub mod Added
 pub mod Outcome
 pub mod Steps
+pub mod ReadsBack

@@ -1,0 +1,32 @@
+-- Reading a plate back: the old pictures and then the new one, byte for byte.
+use mathlib.Core.Path.{_≡_}
+use mathlib.Core.Bool.{true}
+use mathlib.Core.List.{List}
+use Prim.Native.Nat.{ℕ, _+_, _<_}
+use lib.ListN.{length, take, drop}
+use Rattle.picture.specs.Answer.{Answer, answered}
+use Rattle.picture.specs.Planes.{bytesOf}
+use Rattle.plate_format.specs.Format.{version, count, entrySize, isPlate}
+use Rattle.plate.specs.Lookup.{Picture, lookedUp}
+
+-- what a lookup answers, s bytes further on
+abbrev pub movedOn : ℕ → Answer Picture → Answer Picture
+movedOn s a = answered (a .number) (record { width = a .left .width; height = a .left .height; offset = a .left .offset + s; length = a .left .length })
+
+-- the bytes of picture i, as a lookup of the plate finds them
+abbrev pub bytesAt : List ℕ → ℕ → List ℕ
+bytesAt file i = take (lookedUp file i .left .length) (drop (lookedUp file i .left .offset) file)
+
+-- the picture that comes after all old ones
+abbrev pub newest : List ℕ → ℕ → ℕ → Picture
+newest old w h = record { width = w; height = h; offset = length old + entrySize (version old); length = bytesOf w h }
+
+-- `new` is a plate of the same version with one picture more; each old picture is found one table entry further on with the same bytes, and after them the new one
+pub record ReadsBack (old new : List ℕ) (w h : ℕ) (picture : List ℕ) : Type 0 where
+  pub plate : isPlate new ≡ true
+  pub same-version : version new ≡ version old
+  pub one-more : count new ≡ count old + 1
+  pub old-found : (i : ℕ) → i < count old → lookedUp new i ≡ movedOn (entrySize (version old)) (lookedUp old i)
+  pub old-bytes : (i : ℕ) → i < count old → bytesAt new i ≡ bytesAt old i
+  pub new-found : lookedUp new (count old) ≡ answered 0 (newest old w h)
+  pub new-bytes : bytesAt new (count old) ≡ picture
