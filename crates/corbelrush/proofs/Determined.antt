@@ -8,6 +8,7 @@ use denote.Triple.Clauses.{AtExit}
 use denote.Ref.{now}
 use Rattle.picture.specs.Answer.{answered, lent, lentCopy}
 use Rattle.drop_shadow.specs.Outcome as shadowing
+use Rattle.plate_write.specs.Outcome.{grown}
 use Rattle.corbelrush.specs.Words.{pointers, pictureIn}
 use Rattle.corbelrush.proofs.filters.corbelrush_blur.Reads as blur
 use Rattle.corbelrush.proofs.filters.corbelrush_blur.Kinds as blur-kinds
@@ -27,6 +28,10 @@ use Rattle.corbelrush.proofs.plates.corbelrush_plate_picture.Reads as p
 use Rattle.corbelrush.proofs.plates.corbelrush_plate_picture.Kinds as plate-picture-kinds
 use Rattle.corbelrush.proofs.plates.corbelrush_plate_job.Reads as plate-job
 use Rattle.corbelrush.proofs.plates.corbelrush_plate_job.Kinds as plate-job-kinds
+use Rattle.corbelrush.proofs.plates.corbelrush_plate_start.Reads as plate-start
+use Rattle.corbelrush.proofs.plates.corbelrush_plate_start.Kinds as plate-start-kinds
+use Rattle.corbelrush.proofs.plates.corbelrush_plate_add.Reads as plate-add
+use Rattle.corbelrush.proofs.plates.corbelrush_plate_add.Kinds as plate-add-kinds
 
 -- `seen` is what C sees of a call: the number, and what is behind each pointer that the call may write through
 module _ {n : ℕ} (ps : List (PK n)) (r : RK n) (Post : Out n ps r) {B : Type 0} (seen : (κs : Lfts n) → resT r κs .Denot → AtExit (endedOf n ps r) κs → B) where
@@ -59,3 +64,9 @@ plate-picture-determined κs a r₁ r₂ x₁ x₂ h₁ h₂ = h₁ ∙ sym h₂
 
 pub plate-job-determined : Determined plate-job-kinds.ps plate-job-kinds.r plate-job.Post (λ κs r x. answered r (lent (now (x .0)) (now (x .1 .0))))
 plate-job-determined κs a r₁ r₂ x₁ x₂ h₁ h₂ = h₁ ∙ sym h₂
+
+pub plate-start-determined : Determined plate-start-kinds.ps plate-start-kinds.r plate-start.Post (λ κs r x. answered r (grown (now (x .0)) (now (x .1 .1 .0))))
+plate-start-determined κs a r₁ r₂ x₁ x₂ h₁ h₂ = h₁ ∙ sym h₂
+
+pub plate-add-determined : Determined plate-add-kinds.ps plate-add-kinds.r plate-add.Post (λ κs r x. answered r (grown (now (x .0)) (now (x .1 .1 .1 .1 .1 .1 .1 .0))))
+plate-add-determined κs a r₁ r₂ x₁ x₂ h₁ h₂ = h₁ ∙ sym h₂

@@ -18,6 +18,7 @@ use Rattle.grading.specs.Premultiplied.{checked}
 use Rattle.grading.specs.Sampling.{viewRefusal, sampled}
 use Rattle.spread.specs.Spread.{reported}
 use Rattle.plate.specs.Lookup.{Picture, lookedUp}
+use Rattle.plate_write.specs.Outcome.{Grown, grown, startOutcome, addOutcome}
 use Rattle.job.specs.Job as job
 use Rattle.corbelrush.specs.Words.{recipe, flag, reworded, Pointers, pointers, findingIn, pictureIn}
 use Rattle.pixels.specs.Pixels.{packed}
@@ -39,6 +40,10 @@ use Rattle.corbelrush.proofs.plates.corbelrush_plate_picture.Reads as p
 use Rattle.corbelrush.proofs.plates.corbelrush_plate_picture.Kinds as plate-picture-kinds
 use Rattle.corbelrush.proofs.plates.corbelrush_plate_job.Reads as plate-job
 use Rattle.corbelrush.proofs.plates.corbelrush_plate_job.Kinds as plate-job-kinds
+use Rattle.corbelrush.proofs.plates.corbelrush_plate_start.Reads as plate-start
+use Rattle.corbelrush.proofs.plates.corbelrush_plate_start.Kinds as plate-start-kinds
+use Rattle.corbelrush.proofs.plates.corbelrush_plate_add.Reads as plate-add
+use Rattle.corbelrush.proofs.plates.corbelrush_plate_add.Kinds as plate-add-kinds
 
 module _ {n : ℕ} (ps : List (PK n)) (r : RK n) (Post : Out n ps r) where
   pub record CanBeMet : Type 0 where
@@ -244,5 +249,47 @@ plate-job-met =
     record {
       number = λ κs a. jobLeaves (jobGiven κs a) .number;
       left = λ κs a. let l = jobLeaves (jobGiven κs a) .left in (l .picture, (l .scratch, tt));
+      meets = λ κs a. refl;
+    }
+
+-- ---- starting a plate
+abbrev StartGiven : Type 0
+StartGiven = List ℕ × ℕ
+
+abbrev startGiven : (κs : Lfts 2) → Dens κs plate-start-kinds.ps → StartGiven
+startGiven κs a = (now (a .0), a .1 .0)
+
+abbrev startLeaves : StartGiven → Answer Grown
+startLeaves g = startOutcome (g .0) (g .1)
+
+pub plate-start-runs : SameRuns plate-start-kinds.ps plate-start-kinds.r plate-start.Post startGiven (λ κs r x. answered r (grown (now (x .0)) (now (x .1 .1 .0))))
+plate-start-runs = same-runs plate-start-kinds.ps plate-start-kinds.r plate-start.Post startGiven _ startLeaves (λ κs a v x h. h)
+
+pub plate-start-met : CanBeMet plate-start-kinds.ps plate-start-kinds.r plate-start.Post
+plate-start-met =
+    record {
+      number = λ κs a. startLeaves (startGiven κs a) .number;
+      left = λ κs a. let l = startLeaves (startGiven κs a) .left in (l .buffer, (tt, (l .used, tt)));
+      meets = λ κs a. refl;
+    }
+
+-- ---- adding a picture to a plate
+abbrev AddGiven : Type 0
+AddGiven = List ℕ × ℕ × List ℕ × ℕ × ℕ
+
+abbrev addGiven : (κs : Lfts 3) → Dens κs plate-add-kinds.ps → AddGiven
+addGiven κs a = (now (a .0), a .1 .0, now (a .1 .1 .0), a .1 .1 .1 .0, a .1 .1 .1 .1 .0)
+
+abbrev addLeaves : AddGiven → Answer Grown
+addLeaves g = addOutcome (g .0) (g .1) (g .2) (g .3) (g .4)
+
+pub plate-add-runs : SameRuns plate-add-kinds.ps plate-add-kinds.r plate-add.Post addGiven (λ κs r x. answered r (grown (now (x .0)) (now (x .1 .1 .1 .1 .1 .1 .1 .0))))
+plate-add-runs = same-runs plate-add-kinds.ps plate-add-kinds.r plate-add.Post addGiven _ addLeaves (λ κs a v x h. h)
+
+pub plate-add-met : CanBeMet plate-add-kinds.ps plate-add-kinds.r plate-add.Post
+plate-add-met =
+    record {
+      number = λ κs a. addLeaves (addGiven κs a) .number;
+      left = λ κs a. let l = addLeaves (addGiven κs a) .left in (l .buffer, (tt, (tt, (tt, (tt, (tt, (tt, (l .used, tt))))))));
       meets = λ κs a. refl;
     }

@@ -1,8 +1,11 @@
 // The plate file for C.
 use plate::Lookup;
+use plate_write::Added;
+use plate_write::Started;
 ghost use mathlib.Core.Path.{_≡_};
 ghost use Rattle.picture.specs.Answer.{answered, lent};
 ghost use Rattle.plate.specs.Lookup.{lookedUp};
+ghost use Rattle.plate_write.specs.Outcome.{grown, startOutcome, addOutcome};
 ghost use Rattle.job.specs.Job.{plateBlur, jobOutcome};
 ghost use Rattle.corbelrush.specs.Words.{pictureIn};
 
@@ -41,4 +44,43 @@ pub extern "C" fn corbelrush_plate_job(plate: &mut [u8], scratch: &mut [u8]) -> 
     ensures { λ r. ⌜ answered r (lent (now (plate .exit)) (now (scratch .exit))) ≡ jobOutcome plateBlur (now (plate .entry)) (now (scratch .entry)) ⌝ }
 {
     job::plate_job(plate, scratch)
+}
+
+// Starts a plate of no pictures, of that version, as `plate_start` does; its length goes through the pointer.
+#[no_mangle]
+pub extern "C" fn corbelrush_plate_start(buffer: &mut [u8], version: u32, used: &mut u64) -> u32
+    ensures { λ r. ⌜ answered r (grown (now (buffer .exit)) (now (used .exit))) ≡ startOutcome (now (buffer .entry)) version ⌝ }
+{
+    *used = 0;
+    match plate_write::plate_start(buffer, version) {
+        Started::NotStarted(r) => r.number(),
+        Started::Empty(n) => {
+            *used = n as u64;
+            0
+        }
+    }
+}
+
+// Adds a picture to the plate that the first `used` bytes are, as `plate_add` does; the new length goes through the pointer.
+#[no_mangle]
+pub extern "C" fn corbelrush_plate_add(
+    buffer: &mut [u8],
+    used: u64,
+    picture: &[u8],
+    w: u32,
+    h: u32,
+    unit: u32,
+    sheet: u16,
+    after: &mut u64,
+) -> u32
+    ensures { λ r. ⌜ answered r (grown (now (buffer .exit)) (now (after .exit))) ≡ addOutcome (now (buffer .entry)) used (now (picture .entry)) w h ⌝ }
+{
+    *after = 0;
+    match plate_write::plate_add(buffer, used as usize, picture, w, h, unit, sheet) {
+        Added::Refused(r) => r.number(),
+        Added::InUse(n) => {
+            *after = n as u64;
+            0
+        }
+    }
 }

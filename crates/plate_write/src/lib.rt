@@ -4,6 +4,10 @@ mod table;
 
 use crate::fields::put_header;
 use crate::table::retable;
+use picture::BROKEN_PLATE;
+use picture::NO_ROOM;
+use picture::WRONG_LENGTH;
+use picture::WRONG_SIDES;
 use plate_format::Entry;
 ghost use mathlib.Core.Path.{_≡_};
 ghost use mathlib.Core.Bool.{true, false};
@@ -13,13 +17,25 @@ ghost use Rattle.picture.specs.Planes.{laid};
 ghost use Rattle.picture.specs.Refusal.{wrongSides};
 ghost use Rattle.plate_format.specs.Format.{isPlate, version, count, largestWhole};
 ghost use Rattle.plate_write.specs.Added.{newEntry, added, lengthAfter, noRoom};
-ghost use Rattle.plate_write.specs.Outcome.{grown, inUse, noPlate, starts, startOutcome, adds, addOutcome};
+ghost use Rattle.plate_write.specs.Outcome.{grown, inUse, noPlate, startNumber, starts, startOutcome, addNumber, adds, addOutcome};
 ghost use Rattle.plate_write.specs.Steps.{Adding};
 
 // Why a plate is not started.
 pub enum StartRefusal {
     UnknownVersion,
     NoHeaderRoom,
+}
+
+impl StartRefusal {
+    // The number of a refusal.
+    pub fn number(self) -> u32
+        ensures { λ r. ⌜ r ≡ startNumber self ⌝ }
+    {
+        match self {
+            StartRefusal::UnknownVersion => BROKEN_PLATE,
+            StartRefusal::NoHeaderRoom => NO_ROOM,
+        }
+    }
 }
 
 // What starting a plate comes to: its length in use.
@@ -34,6 +50,20 @@ pub enum AddRefusal {
     WrongSides,
     WrongLength,
     NoRoom,
+}
+
+impl AddRefusal {
+    // The number of a refusal.
+    pub fn number(self) -> u32
+        ensures { λ r. ⌜ r ≡ addNumber self ⌝ }
+    {
+        match self {
+            AddRefusal::BrokenPlate => BROKEN_PLATE,
+            AddRefusal::WrongSides => WRONG_SIDES,
+            AddRefusal::WrongLength => WRONG_LENGTH,
+            AddRefusal::NoRoom => NO_ROOM,
+        }
+    }
 }
 
 // What adding a picture comes to: the new length in use.
