@@ -2,7 +2,7 @@
 //! Inside the library's time: clearing the work buffers. Inside the Rust's: the shadow's clone.
 //! Outside both: putting the input back, the first allocation of work buffers.
 use crate::bars;
-use crate::case::{call, Case, Entry, Part};
+use crate::case::{call, Case, Entry, Part, Parts};
 use crate::inputs::bell;
 use crate::library::{under_test, Library};
 use crate::random::Random;
@@ -59,8 +59,9 @@ impl Ours {
         let begun = Instant::now();
         for picture in &mut self.pictures {
             let (scratch, copy) = (Part::from(&mut self.scratch), Part::from(&mut self.copy));
+            let parts = Parts { picture: picture.into(), scratch, copy, ..Parts::default() };
             // SAFETY: no two buffers overlap.
-            let (answer, _) = unsafe { call(library, case, picture.into(), scratch, copy) };
+            let (answer, _) = unsafe { call(library, case, parts) };
             assert_eq!(answer, 0, "an accepted case");
         }
         begun.elapsed()

@@ -13,9 +13,11 @@ pub enum Entry {
     Spread,
     PlatePicture,
     PlateJob,
+    PlateStart,
+    PlateAdd,
 }
 
-pub const ENTRIES: [Entry; 9] = [
+pub const ENTRIES: [Entry; 11] = [
     Entry::Blur,
     Entry::Shift,
     Entry::Shadow,
@@ -25,7 +27,12 @@ pub const ENTRIES: [Entry; 9] = [
     Entry::Spread,
     Entry::PlatePicture,
     Entry::PlateJob,
+    Entry::PlateStart,
+    Entry::PlateAdd,
 ];
+
+/// The entries of the first release.
+pub const FIRST: &[Entry] = ENTRIES.split_at(9).0;
 
 /// Whatever an entry does not take stays at its default.
 #[derive(Clone, Debug, PartialEq)]
@@ -33,7 +40,7 @@ pub struct Case {
     pub entry: Entry,
     pub w: u32,
     pub h: u32,
-    /// The picture, or the plate.
+    /// The picture, the plate, or the buffer that a plate is written in.
     pub picture: Vec<u8>,
     /// The lengths of the work buffers.
     pub scratch: usize,
@@ -106,6 +113,11 @@ impl Case {
         }
     }
 
+    /// A case with no work buffers.
+    pub fn plain(entry: Entry, picture: Vec<u8>) -> Case {
+        Case { scratch: 0, copy: 0, ..Case::new(entry, 0, 0, picture) }
+    }
+
     /// The entries that blur with an edge rule, n and a kernel.
     pub fn blurs(&self) -> bool {
         matches!(self.entry, Entry::Blur | Entry::Shadow)
@@ -116,7 +128,16 @@ impl Case {
     }
 
     pub fn is_plate(&self) -> bool {
-        matches!(self.entry, Entry::PlatePicture | Entry::PlateJob)
+        matches!(self.entry, Entry::PlatePicture | Entry::PlateJob | Entry::PlateStart | Entry::PlateAdd)
+    }
+
+    /// The lent bytes of a picture of w by h.
+    pub fn pixels(&mut self) -> &mut Vec<u8> {
+        if self.entry == Entry::PlateAdd {
+            &mut self.other
+        } else {
+            &mut self.picture
+        }
     }
 }
 
@@ -144,7 +165,11 @@ impl Lent {
         Lent { bytes, from, length }
     }
 
+    /// One of length 0 has a null pointer, or one that may be touched.
     fn part(&mut self) -> Part {
+        if self.length == 0 && self.from.is_multiple_of(2) {
+            return Part::default();
+        }
         // SAFETY: `from` lies inside.
         Part { at: unsafe { self.bytes.as_mut_ptr().add(self.from) }, length: self.length }
     }
@@ -166,6 +191,21 @@ pub struct Part {
     length: usize,
 }
 
+impl Default for Part {
+    fn default() -> Part {
+        Part { at: std::ptr::null_mut(), length: 0 }
+    }
+}
+
+/// All lent buffers.
+#[derive(Clone, Copy, Default)]
+pub struct Parts {
+    pub picture: Part,
+    pub scratch: Part,
+    pub copy: Part,
+    pub other: Part,
+}
+
 impl From<&mut Vec<u8>> for Part {
     fn from(buffer: &mut Vec<u8>) -> Part {
         Part { at: buffer.as_mut_ptr(), length: buffer.len() }
@@ -178,9 +218,11 @@ pub fn run(library: &Library, case: &Case) -> Outcome {
     let mut picture = Lent::new(case.picture.iter().copied(), turn);
     let mut scratch = Lent::new((0..case.scratch).map(work), turn / 3);
     let mut copy = Lent::new((0..case.copy).map(work), turn / 5);
+    let mut other = Lent::new(case.other.iter().copied(), turn / 7);
     let lent = case.clone();
+    let parts = Parts { picture: picture.part(), scratch: scratch.part(), copy: copy.part(), other: other.part() };
     // SAFETY: no two buffers overlap.
-    let (answer, numbers) = unsafe { call(library, &lent, picture.part(), scratch.part(), copy.part()) };
+    let (answer, numbers) = unsafe { call(library, &lent, parts) };
     let same_weights = lent.weights.iter().zip(&case.weights).all(|(a, b)| a.to_bits() == b.to_bits());
     Outcome {
         answer,
@@ -188,9 +230,9 @@ pub fn run(library: &Library, case: &Case) -> Outcome {
         scratch: scratch.content(),
         copy: copy.content(),
         list: lent.list,
-        other: lent.other,
+        other: other.content(),
         numbers,
-        strayed: picture.strayed() || scratch.strayed() || copy.strayed() || !same_weights,
+        strayed: [picture, scratch, copy, other].iter().any(Lent::strayed) || !same_weights,
     }
 }
 
@@ -199,10 +241,11 @@ const UNSET: u64 = 0xDEAD_BEEF_DEAD_BEEF;
 
 /// Calls the entry and answers its number and its out-parameters. The buffers must not overlap.
 #[rustfmt::skip]
-pub unsafe fn call(library: &Library, case: &Case, picture: Part, scratch: Part, copy: Part) -> (u32, [u64; 4]) {
-    let Case { w, h, n, edge, dx, dy, strength, composite, x, y, .. } = *case;
-    let (Part { at: p, length: p_len }, Part { at: s, length: s_len }) = (picture, scratch);
-    let (Part { at: c, length: c_len }, [red, green, blue, alpha]) = (copy, case.colour);
+pub unsafe fn call(library: &Library, case: &Case, parts: Parts) -> (u32, [u64; 4]) {
+    let Case { w, h, n, edge, dx, dy, strength, composite, x, y, unit, sheet, used, .. } = *case;
+    let (Part { at: p, length: p_len }, Part { at: s, length: s_len }) = (parts.picture, parts.scratch);
+    let (Part { at: c, length: c_len }, Part { at: o, length: o_len }) = (parts.copy, parts.other);
+    let [red, green, blue, alpha] = case.colour;
     let (k, k_len) = (case.weights.as_ptr(), case.weights.len());
     let ([mut wide, mut high], [mut far, mut long]) = ([UNSET as u32; 2], [UNSET; 2]);
     let answer = match case.entry {
@@ -220,10 +263,12 @@ pub unsafe fn call(library: &Library, case: &Case, picture: Part, scratch: Part,
             (library.plate_picture)(p, p_len, x as u32, &mut wide, &mut high, &mut far, &mut long)
         }
         Entry::PlateJob => (library.plate_job)(p, p_len, s, s_len),
+        Entry::PlateStart => (library.plate_start)(p, p_len, unit, &mut far),
+        Entry::PlateAdd => (library.plate_add)(p, p_len, used, o, o_len, w, h, unit, sheet, &mut far),
     };
     let numbers = match case.entry {
         Entry::Check => [wide.into(), far, 0, 0],
-        Entry::Spread => [far, 0, 0, 0],
+        Entry::Spread | Entry::PlateStart | Entry::PlateAdd => [far, 0, 0, 0],
         Entry::PlatePicture => [wide.into(), high.into(), far, long],
         _ => [0; 4],
     };
@@ -251,9 +296,12 @@ impl fmt::Display for Case {
             Entry::Sample => write!(f, " edge {} x {} y {}", self.edge, self.x, self.y)?,
             Entry::View => write!(f, " edge {}", self.edge)?,
             Entry::PlatePicture => write!(f, " index {}", self.x as u32)?,
+            Entry::PlateStart => write!(f, " version {}", self.unit)?,
+            Entry::PlateAdd => write!(f, " used {} unit {} sheet {}", self.used, self.unit, self.sheet)?,
             _ => (),
         }
         write!(f, " scratch {} copy {}", self.scratch, self.copy)?;
-        list(f, "bytes", &self.picture)
+        list(f, "bytes", &self.picture)?;
+        list(f, "other", &self.other)
     }
 }

@@ -1,6 +1,7 @@
 //! The cases, group by group.
-use crate::case::{Case, Entry};
+use crate::case::{Case, Entry, ENTRIES};
 use crate::inputs::{self, NOT_FINITE, NO_SHARE, OFFSETS};
+use crate::plate_cases;
 use crate::random::Random;
 use rule::{LARGEST_SIDE, MOST_DECIMATIONS, MOST_TAPS};
 
@@ -37,8 +38,11 @@ pub fn all(amount: Amount, take: Take) {
         compositing(&mut random, take);
         largest(&mut random, take);
     }
-    refusals(&mut random, amount.of(8, 60), u32::MAX, take);
+    refusals(&mut random, &ENTRIES, amount.of(8, 60), u32::MAX, take);
     samples(&mut random, take);
+    for _ in 0..amount.of(1, 10) {
+        plate_cases::all(&mut random, take);
+    }
     for _ in 0..amount.of(30_000, 900_000) {
         take(any(&mut random));
     }
@@ -204,7 +208,7 @@ fn largest(random: &mut Random, take: Take) {
 }
 
 /// The refusal numbers of an entry.
-fn numbers(entry: Entry) -> &'static [u32] {
+pub fn numbers(entry: Entry) -> &'static [u32] {
     match entry {
         Entry::Blur => &[1, 2, 3, 4, 5, 6, 7, 9],
         Entry::Shift => &[1, 2, 7],
@@ -214,6 +218,8 @@ fn numbers(entry: Entry) -> &'static [u32] {
         Entry::Spread => &[4, 6, 11],
         Entry::PlatePicture => &[10, 12],
         Entry::PlateJob => &[3, 10],
+        Entry::PlateStart => &[10, 13],
+        Entry::PlateAdd => &[10, 1, 2, 13],
     }
 }
 
@@ -222,18 +228,18 @@ fn bad_sides(random: &mut Random, case: &mut Case) {
     let side = if random.one_in(2) { &mut case.w } else { &mut case.h };
     *side = bad;
     // so that 4wh is the picture's length all the same
-    if bad == 0 {
-        case.picture.clear();
-    } else if bad == LARGEST_SIDE + 1 {
-        case.picture.resize(4 * case.w as usize * case.h as usize, 7);
+    let length = 4 * case.w as usize * case.h as usize;
+    if bad == 0 || bad == LARGEST_SIDE + 1 {
+        case.pixels().resize(length, 7);
     }
-    case.scratch = case.picture.len();
-    case.copy = case.picture.len();
+    if case.blurs() {
+        (case.scratch, case.copy) = (case.picture.len(), case.picture.len());
+    }
 }
 
 fn bad_length(random: &mut Random, case: &mut Case) {
-    let length = case.picture.len() as i64 + random.pick(&[-4, -1, 1, 4, -1_000_000]);
-    case.picture.resize(length.max(0) as usize, 9);
+    let length = case.pixels().len() as i64 + random.pick(&[-4, -1, 1, 4, -1_000_000]);
+    case.pixels().resize(length.max(0) as usize, 9);
 }
 
 fn short_work(random: &mut Random, case: &mut Case) {
@@ -268,6 +274,14 @@ fn bad_number(random: &mut Random, case: &mut Case) {
     }
 }
 
+fn bad_plate(random: &mut Random, case: &mut Case) {
+    match case.entry {
+        Entry::PlateStart => case.unit = random.pick(&plate_cases::VERSIONS),
+        Entry::PlateAdd => plate_cases::spoil_plate(random, case),
+        _ => case.picture = inputs::bad_plate(random),
+    }
+}
+
 /// Makes the condition of a refusal hold, where the rest of the case lets it.
 fn spoil(random: &mut Random, case: &mut Case, number: u32) {
     match number {
@@ -280,13 +294,17 @@ fn spoil(random: &mut Random, case: &mut Case, number: u32) {
         7 => bad_number(random, case),
         8 => case.colour[random.below(4) as usize] = random.pick(&NO_SHARE),
         9 => case.edge = random.pick(&[4, 5, 255, u32::MAX]),
-        10 => case.picture = inputs::bad_plate(random),
+        10 => bad_plate(random, case),
+        13 => plate_cases::spoil_room(random, case),
         _ => case.x = random.pick(&[64, 65, i32::MIN, -1]),
     }
 }
 
 /// A case of an entry that is accepted.
 pub fn accepted(random: &mut Random, entry: Entry) -> Case {
+    if matches!(entry, Entry::PlateStart | Entry::PlateAdd) {
+        return plate_cases::accepted(random, entry);
+    }
     let (w, h) = (random.range(1, 6) as u32, random.range(1, 6) as u32);
     let (n, edge) = (random.below(13) as u32, random.below(4) as u32);
     let taps = random.range(1, MOST_TAPS as i64) as usize;
@@ -306,14 +324,14 @@ pub fn accepted(random: &mut Random, entry: Entry) -> Case {
     case
 }
 
-/// Every set of at most `most` of an entry's conditions.
-pub fn refusals(random: &mut Random, rounds: u32, most: u32, take: Take) {
-    for entry in crate::case::ENTRIES {
+/// Every set of at most `most` of the conditions of each entry.
+pub fn refusals(random: &mut Random, entries: &[Entry], rounds: u32, most: u32, take: Take) {
+    for entry in entries.iter().copied() {
         let numbers = numbers(entry);
         for set in (0..1_u32 << numbers.len()).filter(|set| set.count_ones() <= most) {
             for _ in 0..rounds {
                 let mut case = accepted(random, entry);
-                // in number order: what 1 does to the sides decides what 2 and 3 must do
+                // in the order of the checks: what 1 does to the sides decides what 2 and 3 must do
                 for (bit, number) in numbers.iter().enumerate() {
                     if set >> bit & 1 == 1 {
                         spoil(random, &mut case, *number);
@@ -378,7 +396,7 @@ fn any(random: &mut Random) -> Case {
             shift(random, w, h, dx, dy)
         }
         _ => {
-            let entry = random.pick(&crate::case::ENTRIES);
+            let entry = random.pick(&ENTRIES);
             let mut case = accepted(random, entry);
             if random.one_in(3) {
                 let number = random.pick(numbers(entry));

@@ -1,5 +1,6 @@
 //! Pictures, kernels, offsets and plates to build cases from.
 use crate::random::Random;
+use rule::plate_write::{file, Scan};
 
 /// Offsets at and past every limit that the shift's arithmetic has.
 pub const OFFSETS: [f32; 36] = [
@@ -158,19 +159,13 @@ pub fn plate(random: &mut Random) -> Vec<u8> {
         .map(|_| (random.range(1, side) as u32, random.range(1, side) as u32))
         .map(|(w, h)| if long && count == 1 { (w, 4084 / (4 * w)) } else { (w, h) })
         .collect();
-    let mut bytes = vec![1, 0, count as u8, 0];
-    let mut offset = 4 + 12 * count as u32;
-    for (w, h) in &sides {
-        bytes.extend((*w as u16).to_le_bytes());
-        bytes.extend((*h as u16).to_le_bytes());
-        bytes.extend(offset.to_le_bytes());
-        bytes.extend((4 * w * h).to_le_bytes());
-        offset += 4 * w * h;
-    }
-    for (w, h) in sides {
-        bytes.extend(picture(random, w, h));
-    }
-    bytes
+    plate_of(random, &sides)
+}
+
+/// A plate of random pictures of these sides.
+pub fn plate_of(random: &mut Random, sides: &[(u32, u32)]) -> Vec<u8> {
+    let scan = |(w, h): &(u32, u32)| Scan { w: *w, h: *h, body: picture(random, *w, *h) };
+    file(1, &sides.iter().map(scan).collect::<Vec<_>>())
 }
 
 /// A plate with one thing wrong, most times.

@@ -1,6 +1,6 @@
-//! The nine C functions as a table, filled by the linked library or by the rules.
-use rule::{blur, grading, plate, shadow, shift};
-use std::slice::{from_raw_parts, from_raw_parts_mut};
+//! The C functions as a table, filled by the linked library or by the rules.
+use rule::{blur, grading, plate, plate_write, shadow, shift};
+use std::slice;
 
 pub struct Library {
     pub name: &'static str,
@@ -13,6 +13,8 @@ pub struct Library {
     pub spread: Spread,
     pub plate_picture: PlatePicture,
     pub plate_job: PlateJob,
+    pub plate_start: PlateStart,
+    pub plate_add: PlateAdd,
 }
 
 /// The types of the C functions, and the library's own ones where it is linked.
@@ -50,6 +52,11 @@ functions! {
         plate: *const u8, plate_len: usize, index: u32, w: *mut u32, h: *mut u32, offset: *mut u64, length: *mut u64
     );
     PlateJob corbelrush_plate_job(plate: *mut u8, plate_len: usize, scratch: *mut u8, scratch_len: usize);
+    PlateStart corbelrush_plate_start(buffer: *mut u8, buffer_len: usize, version: u32, used: *mut u64);
+    PlateAdd corbelrush_plate_add(
+        buffer: *mut u8, buffer_len: usize, used: u64, picture: *const u8, picture_len: usize, w: u32, h: u32,
+        unit: u32, sheet: u16, new_used: *mut u64
+    );
 }
 
 /// The library under test: the linked one, else the rules.
@@ -72,6 +79,8 @@ static LINKED: Library = Library {
     spread: corbelrush_spread,
     plate_picture: corbelrush_plate_picture,
     plate_job: corbelrush_plate_job,
+    plate_start: corbelrush_plate_start,
+    plate_add: corbelrush_plate_add,
 };
 
 pub static RULE: Library = Library {
@@ -85,9 +94,29 @@ pub static RULE: Library = Library {
     spread: rule_spread,
     plate_picture: rule_plate_picture,
     plate_job: rule_plate_job,
+    plate_start: rule_plate_start,
+    plate_add: rule_plate_add,
 };
 
 // SAFETY of all below: the caller lends each buffer for the call, with its length, and no two overlap.
+
+/// A buffer that is read; the pointer of one of length 0 may be null.
+unsafe fn read<'a, T>(at: *const T, length: usize) -> &'a [T] {
+    if length == 0 {
+        &[]
+    } else {
+        slice::from_raw_parts(at, length)
+    }
+}
+
+/// A buffer that is written.
+unsafe fn written<'a, T>(at: *mut T, length: usize) -> &'a mut [T] {
+    if length == 0 {
+        &mut []
+    } else {
+        slice::from_raw_parts_mut(at, length)
+    }
+}
 
 unsafe extern "C" fn rule_blur(
     picture: *mut u8,
@@ -102,13 +131,13 @@ unsafe extern "C" fn rule_blur(
     strength: f32,
     edge: u32,
 ) -> u32 {
-    let picture = from_raw_parts_mut(picture, picture_len);
-    let scratch = from_raw_parts_mut(scratch, scratch_len);
-    blur::blur(picture, w, h, scratch, from_raw_parts(weights, weights_len), n, strength, edge)
+    let picture = written(picture, picture_len);
+    let scratch = written(scratch, scratch_len);
+    blur::blur(picture, w, h, scratch, read(weights, weights_len), n, strength, edge)
 }
 
 unsafe extern "C" fn rule_shift(picture: *mut u8, picture_len: usize, w: u32, h: u32, dx: f32, dy: f32) -> u32 {
-    shift::shift(from_raw_parts_mut(picture, picture_len), w, h, dx, dy)
+    shift::shift(written(picture, picture_len), w, h, dx, dy)
 }
 
 unsafe extern "C" fn rule_shadow(
@@ -133,10 +162,10 @@ unsafe extern "C" fn rule_shadow(
     alpha: f32,
     composite: u32,
 ) -> u32 {
-    let picture = from_raw_parts_mut(picture, picture_len);
-    let scratch = from_raw_parts_mut(scratch, scratch_len);
-    let copy = from_raw_parts_mut(copy, copy_len);
-    let weights = from_raw_parts(weights, weights_len);
+    let picture = written(picture, picture_len);
+    let scratch = written(scratch, scratch_len);
+    let copy = written(copy, copy_len);
+    let weights = read(weights, weights_len);
     let recipe = shadow::Recipe { dx, dy, strength, colour: [red, green, blue, alpha] };
     shadow::shadow(picture, w, h, scratch, copy, weights, n, edge, recipe, composite != 0)
 }
@@ -149,14 +178,14 @@ unsafe extern "C" fn rule_check(
     found: *mut u32,
     place: *mut u64,
 ) -> u32 {
-    let (number, bad, at) = grading::check(from_raw_parts(picture, picture_len), w, h);
+    let (number, bad, at) = grading::check(read(picture, picture_len), w, h);
     *found = bad.into();
     *place = at;
     number
 }
 
 unsafe extern "C" fn rule_view(picture: *const u8, picture_len: usize, w: u32, h: u32, edge: u32) -> u32 {
-    grading::view(from_raw_parts(picture, picture_len), w, h, edge)
+    grading::view(read(picture, picture_len), w, h, edge)
 }
 
 unsafe extern "C" fn rule_sample(
@@ -168,11 +197,11 @@ unsafe extern "C" fn rule_sample(
     x: i32,
     y: i32,
 ) -> u32 {
-    u32::from_le_bytes(grading::sample(from_raw_parts(picture, picture_len), w, h, edge, x, y))
+    u32::from_le_bytes(grading::sample(read(picture, picture_len), w, h, edge, x, y))
 }
 
 unsafe extern "C" fn rule_spread(weights: *const f32, weights_len: usize, n: u32, spread: *mut u64) -> u32 {
-    let (number, value) = grading::spread(from_raw_parts(weights, weights_len), n);
+    let (number, value) = grading::spread(read(weights, weights_len), n);
     *spread = value;
     number
 }
@@ -186,7 +215,7 @@ unsafe extern "C" fn rule_plate_picture(
     offset: *mut u64,
     length: *mut u64,
 ) -> u32 {
-    let (number, picture) = plate::picture(from_raw_parts(plate, plate_len), index);
+    let (number, picture) = plate::picture(read(plate, plate_len), index);
     *w = picture.w;
     *h = picture.h;
     *offset = picture.offset;
@@ -195,5 +224,29 @@ unsafe extern "C" fn rule_plate_picture(
 }
 
 unsafe extern "C" fn rule_plate_job(plate: *mut u8, plate_len: usize, scratch: *mut u8, scratch_len: usize) -> u32 {
-    plate::job(from_raw_parts_mut(plate, plate_len), from_raw_parts_mut(scratch, scratch_len))
+    plate::job(written(plate, plate_len), written(scratch, scratch_len))
+}
+
+unsafe extern "C" fn rule_plate_start(buffer: *mut u8, buffer_len: usize, version: u32, used: *mut u64) -> u32 {
+    let (number, length) = plate_write::start(written(buffer, buffer_len), version);
+    *used = length;
+    number
+}
+
+unsafe extern "C" fn rule_plate_add(
+    buffer: *mut u8,
+    buffer_len: usize,
+    used: u64,
+    picture: *const u8,
+    picture_len: usize,
+    w: u32,
+    h: u32,
+    unit: u32,
+    sheet: u16,
+    new_used: *mut u64,
+) -> u32 {
+    let (buffer, picture) = (written(buffer, buffer_len), read(picture, picture_len));
+    let (number, length) = plate_write::add(buffer, used, picture, w, h, unit, sheet);
+    *new_used = length;
+    number
 }

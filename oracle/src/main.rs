@@ -9,12 +9,15 @@ mod generate;
 mod inputs;
 mod library;
 mod passes;
+mod plate_cases;
 mod random;
 mod rust;
 mod shrink;
 mod smallest;
 mod tally;
 mod vectors;
+#[cfg(test)]
+mod wrong;
 
 use case::Case;
 use compare::Examiner;

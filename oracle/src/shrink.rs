@@ -15,8 +15,11 @@ fn without_row(case: &Case, gone: u32) -> Case {
     fitted(Case { h: case.h - 1, picture, ..case.clone() })
 }
 
-/// Work buffers exactly as long as the picture.
+/// Work buffers exactly as long as the picture, where there are any.
 fn fitted(case: Case) -> Case {
+    if case.scratch.max(case.copy) == 0 {
+        return case;
+    }
     Case { scratch: case.picture.len(), copy: case.picture.len(), ..case }
 }
 
@@ -131,11 +134,32 @@ fn bytes(case: &Case) -> Vec<Case> {
     simpler
 }
 
+/// What the entries after the first release take: the second buffer shorter and simpler, and small numbers.
+fn later(case: &Case) -> Vec<Case> {
+    let mut simpler = Vec::new();
+    let shorter =
+        [0, case.other.len() / 2, case.other.len().saturating_sub(1)].map(|length| case.other[..length].to_vec());
+    let dark = (0..case.other.len().min(400)).filter(|i| case.other[*i] > 0).map(|i| {
+        let mut other = case.other.clone();
+        other[i] = 0;
+        other
+    });
+    simpler.extend(shorter.into_iter().chain(dark).map(|other| Case { other, ..case.clone() }));
+    simpler.push(Case { used: case.used / 2, ..case.clone() });
+    simpler.push(Case { unit: case.unit / 2, ..case.clone() });
+    simpler.push(Case { sheet: case.sheet / 2, ..case.clone() });
+    if case.is_plate() {
+        let length = case.picture.len().saturating_sub(1);
+        simpler.push(Case { picture: case.picture[..length].to_vec(), ..case.clone() });
+    }
+    simpler
+}
+
 /// Takes each step after which `shows` still holds, until none is left.
 pub fn shrink(mut case: Case, shows: &mut dyn FnMut(&Case) -> bool) -> Case {
     loop {
         let before = case.clone();
-        for steps in [sizes, numbers, kernels, bytes] {
+        for steps in [sizes, numbers, kernels, bytes, later] {
             while let Some(step) = steps(&case).into_iter().find(|c| different(c, &case) && shows(c)) {
                 case = step;
             }

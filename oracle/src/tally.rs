@@ -1,6 +1,7 @@
 //! Counts of the cases run: per entry, class, mode, n and size band.
 use crate::case::{Case, Entry, ENTRIES};
 use crate::compare::Seen;
+use crate::generate::numbers;
 use filters::{Class, CLASSES};
 use std::collections::BTreeMap;
 
@@ -24,6 +25,15 @@ fn band(case: &Case) -> &'static str {
     }
 }
 
+/// The row of an answer.
+fn row(answer: u32) -> String {
+    if answer == 0 {
+        "answer done".into()
+    } else {
+        format!("answer {answer:2}")
+    }
+}
+
 /// The row of the shadows whose colour the Rust floors: with the original, and without.
 fn flooring(composited: bool) -> String {
     format!("class Flooring {}", if composited { "composited" } else { "alone" })
@@ -38,7 +48,7 @@ impl Tally {
         self.cases += 1;
         let entry = case.entry;
         let answer = if entry == Entry::Sample { 0 } else { seen.answer };
-        self.add(if answer == 0 { "answer done".into() } else { format!("answer {answer:2}") }, entry);
+        self.add(row(answer), entry);
         for class in &seen.classes {
             self.add(format!("class {class:?}"), entry);
         }
@@ -57,11 +67,21 @@ impl Tally {
         }
     }
 
-    /// The rows of classes that no case has shown.
+    fn count(&self, row: &str, entry: Entry) -> u64 {
+        self.counts.get(row).and_then(|by_entry| by_entry.get(&entry)).copied().unwrap_or(0)
+    }
+
+    /// The rows of classes, and the answers of entries, that no case has shown.
     pub fn unseen(&self) -> Vec<String> {
         let mut rows: Vec<String> = CLASSES.iter().map(|class| format!("class {class:?}")).collect();
         rows.extend([false, true].map(flooring));
         rows.retain(|row| !self.counts.contains_key(row));
+        for entry in ENTRIES {
+            // a sample answers its pixel, no number
+            let refusals = if entry == Entry::Sample { &[] } else { numbers(entry) };
+            let unseen = [0].iter().chain(refusals).filter(|answer| self.count(&row(**answer), entry) == 0);
+            rows.extend(unseen.map(|answer| format!("{entry:?} {}", row(*answer))));
+        }
         rows
     }
 

@@ -1,9 +1,10 @@
 //! Stored vectors: cases and their outcomes as decimal numbers, one case a line. NOTES.md has the format.
-use crate::case::{run, work, Case, Entry, Outcome, ENTRIES};
+use crate::case::{run, work, Case, Entry, Outcome, ENTRIES, FIRST};
 use crate::compare::Examiner;
 use crate::generate;
 use crate::inputs;
 use crate::library::{Library, RULE};
+use crate::plate_cases;
 use crate::random::Random;
 
 /// Where the vectors are stored: the input of the program that replays them.
@@ -187,8 +188,17 @@ fn coloured() -> Vec<Case> {
     cases
 }
 
-/// Some hundreds of small cases of every entry.
-fn cases() -> Vec<Case> {
+/// The cases of the first release's entries, and then those of each that came later.
+pub fn cases() -> Vec<Case> {
+    let mut cases = first_cases();
+    let mut later = plate_cases::stored(&mut Random::new(10));
+    generate::refusals(&mut Random::new(11), &ENTRIES[9..], 1, 2, &mut |case| later.push(case));
+    cases.extend(later.into_iter().filter(is_short));
+    cases
+}
+
+/// Some hundreds of small cases of every entry of the first release.
+fn first_cases() -> Vec<Case> {
     let mut random = Random::new(8);
     let mut cases = marked();
     for i in 0..128 {
@@ -208,10 +218,10 @@ fn cases() -> Vec<Case> {
         cases.push(generate::shift(&mut random, 3, 2, *dx, 0.0));
         cases.push(generate::shift(&mut random, 2, 3, *dx, *dy));
     }
-    for entry in &ENTRIES[3..] {
+    for entry in &FIRST[3..] {
         cases.extend((0..12).map(|_| generate::accepted(&mut random, *entry)));
     }
-    generate::refusals(&mut random, 2, 2, &mut |case| cases.push(case));
+    generate::refusals(&mut random, FIRST, 2, 2, &mut |case| cases.push(case));
     cases.extend(border_shifts(&mut random));
     cases.into_iter().map(tidy).filter(is_small).collect()
 }
@@ -230,6 +240,11 @@ fn border_shifts(random: &mut Random) -> Vec<Case> {
 fn is_small(case: &Case) -> bool {
     let bytes = case.picture.len();
     case.scratch.max(case.copy) <= 512 && (bytes < 150 || case.is_plate() && bytes < 400)
+}
+
+/// The same for the entries that came later.
+fn is_short(case: &Case) -> bool {
+    case.picture.len().max(case.other.len()) <= 512 && 2 * (case.picture.len() + case.other.len()) < 900
 }
 
 /// Writes the vectors; each was compared with the Rust first.

@@ -4,6 +4,7 @@ pub mod edges;
 pub mod exact;
 pub mod grading;
 pub mod plate;
+pub mod plate_write;
 pub mod refusal;
 pub mod scheme;
 pub mod shadow;

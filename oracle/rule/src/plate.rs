@@ -2,8 +2,17 @@
 use crate::blur::blur;
 use crate::refusal;
 
-const LONGEST: usize = 16384;
-const MOST_PICTURES: usize = 64;
+/// The newest version that is known; all from 1 on are.
+pub const NEWEST: u64 = 1;
+/// The bytes before the table, and those of a table entry.
+pub const HEAD: usize = 4;
+pub const ENTRY: usize = 12;
+pub const LONGEST: usize = 16384;
+pub const MOST_PICTURES: usize = 64;
+
+pub fn known(version: u64) -> bool {
+    (1..=NEWEST).contains(&version)
+}
 
 /// One table entry.
 #[derive(Clone, Copy, Debug, Default, PartialEq)]
@@ -20,7 +29,7 @@ fn number(plate: &[u8], at: usize, bytes: usize) -> Option<u64> {
 }
 
 fn entry(plate: &[u8], i: usize) -> Option<Picture> {
-    let at = 4 + 12 * i;
+    let at = HEAD + ENTRY * i;
     Some(Picture {
         w: number(plate, at, 2)? as u32,
         h: number(plate, at + 2, 2)? as u32,
@@ -33,11 +42,11 @@ fn entry(plate: &[u8], i: usize) -> Option<Picture> {
 pub fn pictures(plate: &[u8]) -> Option<Vec<Picture>> {
     let version = number(plate, 0, 2)?;
     let count = number(plate, 2, 2)? as usize;
-    if version != 1 || count > MOST_PICTURES || plate.len() > LONGEST {
+    if !known(version) || count > MOST_PICTURES || plate.len() > LONGEST {
         return None;
     }
     let mut pictures = Vec::new();
-    let mut end = (4 + 12 * count) as u64;
+    let mut end = (HEAD + ENTRY * count) as u64;
     for i in 0..count {
         let picture = entry(plate, i)?;
         let fits = u128::from(picture.length) == refusal::bytes(picture.w, picture.h);

@@ -1,0 +1,221 @@
+//! Cases of the functions that write plates.
+use crate::case::{Case, Entry};
+use crate::inputs;
+use crate::random::Random;
+use rule::plate::{ENTRY, HEAD, LONGEST};
+
+/// Versions, known and not, and some that 16 or 8 bits would take for a known one.
+pub const VERSIONS: [u32; 12] = [0, 1, 2, 3, 4, 255, 257, 65535, 65536, 65537, 65538, u32::MAX];
+pub const UNITS: [u32; 9] = [0, 1, 2, 3, 257, 65535, 65537, 65538, u32::MAX];
+pub const SHEETS: [u16; 6] = [0, 1, 2, 255, 256, 65535];
+/// How much longer the buffer is than the new plate needs.
+const ROOMS: [i64; 8] = [-12, -5, -4, -1, 0, 1, 4, 64];
+
+fn random_bytes(random: &mut Random, length: usize) -> Vec<u8> {
+    (0..length).map(|_| random.byte()).collect()
+}
+
+pub fn start(random: &mut Random, version: u32, length: usize) -> Case {
+    Case { unit: version, ..Case::plain(Entry::PlateStart, random_bytes(random, length)) }
+}
+
+/// A plate in a buffer with `room` bytes more than it needs for a picture of w by h, which is added.
+pub fn add(random: &mut Random, plate: Vec<u8>, w: u32, h: u32, room: i64) -> Case {
+    let (used, other) = (plate.len(), inputs::picture(random, w, h));
+    let length = (used + ENTRY + other.len()) as i64 + room;
+    let mut buffer = plate;
+    buffer.extend(random_bytes(random, (length as usize).saturating_sub(used)));
+    let (unit, sheet) = (random.pick(&[1, 2]), random.pick(&SHEETS));
+    Case { w, h, other, used: used as u64, unit, sheet, ..Case::plain(Entry::PlateAdd, buffer) }
+}
+
+fn side(random: &mut Random) -> u32 {
+    random.range(1, 4) as u32
+}
+
+/// Equal pictures, none larger than 3 by 3.
+pub fn small_plate(random: &mut Random, count: usize) -> Vec<u8> {
+    let sides = (random.range(1, 3) as u32, random.range(1, 3) as u32);
+    inputs::plate_of(random, &vec![sides; count])
+}
+
+pub fn accepted(random: &mut Random, entry: Entry) -> Case {
+    if entry == Entry::PlateStart {
+        let length = random.range(4, 40) as usize;
+        return start(random, 1, length);
+    }
+    let count = random.pick(&[0, 1, 1, 2, 3, 5, 20, 63]);
+    let (w, h, room) = (side(random), side(random), random.pick(&[0, 1, 4, 64]));
+    let plate = small_plate(random, count);
+    add(random, plate, w, h, room)
+}
+
+/// Makes a plate, or its length in use, wrong.
+pub fn spoil_plate(random: &mut Random, case: &mut Case) {
+    let length = case.picture.len() as u64;
+    match random.below(4) {
+        0 => case.used = random.pick(&[length + 1, (1 << 32) + case.used, 1 << 63, u64::MAX]),
+        1 => case.used = random.pick(&[0, 1, 2, 3, case.used.saturating_sub(1), case.used + 1]),
+        2 => {
+            let at = random.below(HEAD as u64) as usize;
+            spoil_byte(random, &mut case.picture, at);
+        }
+        _ => {
+            let table = HEAD + ENTRY * usize::from(*case.picture.get(2).unwrap_or(&0));
+            let at = random.below(table as u64) as usize;
+            spoil_byte(random, &mut case.picture, at);
+        }
+    }
+}
+
+fn spoil_byte(random: &mut Random, bytes: &mut [u8], at: usize) {
+    if let Some(byte) = bytes.get_mut(at) {
+        *byte = byte.wrapping_add(random.pick(&[1, 255, 16, 128]));
+    }
+}
+
+/// Takes away the room for one picture more.
+pub fn spoil_room(random: &mut Random, case: &mut Case) {
+    if case.entry == Entry::PlateStart {
+        case.picture.truncate(random.below(HEAD as u64) as usize);
+        return;
+    }
+    let whole = case.used as u128 + ENTRY as u128 + rule::refusal::bytes(case.w, case.h);
+    match random.below(3) {
+        0 => case.picture.truncate(case.used.min(1 << 20) as usize),
+        1 => case.picture.truncate((whole - 1).min(1 << 20) as usize),
+        _ => {
+            case.picture = small_plate(random, 64);
+            case.used = case.picture.len() as u64;
+            case.picture.extend(vec![9; 200]);
+        }
+    }
+}
+
+/// Every version at every short length.
+fn starts(random: &mut Random, take: &mut dyn FnMut(Case)) {
+    for version in VERSIONS {
+        for length in (0..9).chain([16, 100, LONGEST, LONGEST + 1]) {
+            take(start(random, version, length));
+        }
+    }
+}
+
+/// Every count near a limit, with more room and less than is needed.
+fn counts(random: &mut Random, take: &mut dyn FnMut(Case)) {
+    for count in [0, 1, 2, 3, 5, 31, 62, 63, 64] {
+        for room in ROOMS {
+            let (w, h) = (side(random), side(random));
+            let plate = small_plate(random, count);
+            take(add(random, plate, w, h, room));
+        }
+    }
+}
+
+/// New plates of about the largest length: a long picture is there, or is added.
+fn lengths(random: &mut Random, take: &mut dyn FnMut(Case)) {
+    for whole in (LONGEST - 12..=LONGEST + 12).step_by(4) {
+        for room in ROOMS.into_iter().chain([4000]) {
+            let count = random.pick(&[0, 1, 3]);
+            let plate = small_plate(random, count);
+            let pixels = (whole - plate.len() - ENTRY) / 4;
+            take(add(random, plate, 1, pixels as u32, room));
+            let plate = inputs::plate_of(random, &[(1, (whole - HEAD - 2 * ENTRY - 4) as u32 / 4)]);
+            take(add(random, plate, 1, 1, room));
+        }
+    }
+}
+
+/// Every length in use about the plate's own and the buffer's, and far ones.
+fn used(random: &mut Random, take: &mut dyn FnMut(Case)) {
+    for count in [0, 1, 2] {
+        let plate = small_plate(random, count);
+        let (own, case) = (plate.len() as u64, add(random, plate, 1, 2, 30));
+        let length = case.picture.len() as u64;
+        let far = [own + (1 << 16), own + (1 << 32), own + (1 << 63), u64::MAX, u64::MAX - 3];
+        for used in (0..=own + 13).chain(length - 1..length + 3).chain(far) {
+            take(Case { used, ..case.clone() });
+        }
+        // a plate that fills its buffer
+        for used in [own - 1, own, own + 1, own + 12, u64::MAX] {
+            let picture = case.picture[..own as usize].to_vec();
+            take(Case { used, picture, ..case.clone() });
+        }
+    }
+}
+
+/// Buffers of a few bytes, which hold an empty plate or a part of one.
+fn short_buffers(random: &mut Random, take: &mut dyn FnMut(Case)) {
+    for length in 0..26 {
+        let plate = inputs::plate_of(random, &[]);
+        let case = add(random, plate, 1, 1, 10);
+        for used in [0, 1, 3, 4, 5, length, length + 1] {
+            let picture = case.picture[..length as usize].to_vec();
+            take(Case { used, picture, ..case.clone() });
+        }
+    }
+}
+
+/// Sides and lengths of the picture that wrap in 16, 32 or 64 bits, and those at the limit.
+fn sides(random: &mut Random, take: &mut dyn FnMut(Case)) {
+    let plate = small_plate(random, 1);
+    let case = add(random, plate, 2, 1, 30);
+    let large = [0, 1, 2, 4095, 4096, 4097, 65535, 65536, 65537, 65538, 1 << 30, 1 << 31, u32::MAX];
+    for w in large {
+        for h in large {
+            for length in [0, 4, 8] {
+                take(Case { w, h, other: random_bytes(random, length), ..case.clone() });
+            }
+        }
+    }
+    for length in 0..24 {
+        take(Case { other: random_bytes(random, length), ..case.clone() });
+    }
+    for (w, h) in [(4096, 1), (1, 4096), (4096, 64), (64, 64)] {
+        let plate = small_plate(random, 1);
+        take(add(random, plate, w, h, 5));
+    }
+}
+
+/// Every unit and sheet beside a picture that is added.
+fn labels(random: &mut Random, take: &mut dyn FnMut(Case)) {
+    for unit in UNITS {
+        for sheet in SHEETS {
+            let plate = small_plate(random, 2);
+            let case = add(random, plate, 1, 1, 20);
+            take(Case { unit, sheet, ..case });
+        }
+    }
+}
+
+/// All groups.
+pub fn all(random: &mut Random, take: &mut dyn FnMut(Case)) {
+    for group in [starts, counts, lengths, used, short_buffers, sides, labels] {
+        group(random, take);
+    }
+}
+
+/// Small ones to be stored.
+pub fn stored(random: &mut Random) -> Vec<Case> {
+    let mut cases: Vec<Case> = (0..6).map(|length| start(random, 1, length)).collect();
+    cases.extend(VERSIONS.map(|version| start(random, version, 6)));
+    for (count, w, h, room) in [(0, 1, 1, 0), (1, 2, 1, 4), (2, 1, 3, 0), (3, 2, 2, -1), (0, 3, 2, 1), (9, 1, 1, 2)] {
+        let plate = small_plate(random, count);
+        cases.push(add(random, plate, w, h, room));
+    }
+    let plate = small_plate(random, 1);
+    let case = add(random, plate, 1, 2, 30);
+    let (own, length) = (case.used, case.picture.len() as u64);
+    for used in [0, 3, 4, own - 1, own + 1, length, length + 1, own + (1 << 32), u64::MAX] {
+        cases.push(Case { used, ..case.clone() });
+    }
+    cases.push(Case { used: own + 1, picture: case.picture[..own as usize].to_vec(), ..case.clone() });
+    for (w, h) in [(0, 1), (1, 4097), (65537, 2), (1, 1), (1 << 30, 1)] {
+        cases.push(Case { w, h, ..case.clone() });
+    }
+    // no room and another refusal too
+    let full = Case { picture: case.picture[..own as usize].to_vec(), ..case.clone() };
+    cases.extend([Case { h: 3, ..full.clone() }, Case { w: 0, ..full.clone() }, Case { w: 0, used: own + 1, ..full }]);
+    cases.push(Case { unit: 65537, sheet: 65535, ..case });
+    cases
+}
