@@ -114,6 +114,8 @@ fn report_grades(input: &[u8]) {
 fn report_plates(input: &[u8]) {
     print_count(b"plate picture", count(input, 8));
     print_count(b"plate job", count(input, 9));
+    print_count(b"plate start", count(input, 10));
+    print_count(b"plate add", count(input, 11));
 }
 
 fn report(input: &[u8]) {

@@ -67,13 +67,21 @@ fn plate_picture(v: &[u64], plate: &[u8]) -> Reply {
     }
 }
 
+fn plate_start(v: &[u64], buffer: &mut [u8]) -> Reply {
+    let mut used = UNSET as u64;
+    let version = head::word(v, 17);
+    let number = plates::corbelrush_plate_start(buffer, version, &mut used);
+    replies::two(number, used, 0)
+}
+
 fn call(v: &[u64], picture: &mut [u8]) -> Reply {
     match head::number(v, 0) {
         2 => shift(v, picture),
         4 => check(v, picture),
         5 => view(v, picture),
         6 => sample(v, picture),
-        _ => plate_picture(v, picture),
+        8 => plate_picture(v, picture),
+        _ => plate_start(v, picture),
     }
 }
 

@@ -13,6 +13,10 @@ use mir.Val.{toZ}
 abbrev pub wordOf : ℕ → ℕ
 wordOf x = x % 2 ^ 32
 
+-- the lower 16 bits
+abbrev pub halfOf : ℕ → ℕ
+halfOf x = x % 2 ^ 16
+
 -- 32 bits in two's complement
 abbrev pub signedOf : ℕ → ℤ
 signedOf x = toZ w32 (wordOf x)

@@ -4,7 +4,7 @@ use crate::values::LONGEST;
 ghost use mathlib.Core.Path.{_≡_};
 ghost use Prim.Native.Nat.{_≤_};
 ghost use lib.ListN.{getD};
-ghost use Rattle.vector_values.specs.Values.{wordOf, floatOf, lengthOf};
+ghost use Rattle.vector_values.specs.Values.{wordOf, halfOf, floatOf, lengthOf};
 
 // The number at a place, or 0 past the end.
 pub fn number(v: &[u64], i: usize) -> u64
@@ -17,6 +17,12 @@ pub fn word(v: &[u64], i: usize) -> u32
     ensures { λ r. ⌜ r ≡ wordOf (getD (now (v .entry)) i 0) ⌝ }
 {
     values::word(number(v, i))
+}
+
+pub fn half(v: &[u64], i: usize) -> u16
+    ensures { λ r. ⌜ r ≡ halfOf (getD (now (v .entry)) i 0) ⌝ }
+{
+    values::half(number(v, i))
 }
 
 pub fn float(v: &[u64], i: usize) -> f32

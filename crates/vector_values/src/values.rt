@@ -1,6 +1,6 @@
 // Numbers as what a call takes.
 ghost use mathlib.Core.Path.{_≡_};
-ghost use Rattle.vector_values.specs.Values.{wordOf, floatOf, byteOf, signedOf, allUnder};
+ghost use Rattle.vector_values.specs.Values.{wordOf, halfOf, floatOf, byteOf, signedOf, allUnder};
 
 // The longest buffer of a vector.
 pub const LONGEST: usize = 512;
@@ -10,6 +10,13 @@ pub fn word(x: u64) -> u32
     ensures { λ r. ⌜ r ≡ wordOf x ⌝ }
 {
     (x % 4294967296) as u32
+}
+
+// The number of 16 bits.
+pub fn half(x: u64) -> u16
+    ensures { λ r. ⌜ r ≡ halfOf x ⌝ }
+{
+    (x % 65536) as u16
 }
 
 // The number of 32 bits as a signed one.

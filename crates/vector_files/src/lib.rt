@@ -1,0 +1,57 @@
+// The function that is lent two buffers with content: a plate and a picture for it.
+use corbelrush::plates;
+use vector_parts::buffers;
+use vector_parts::parts;
+use vector_parts::replies;
+use vector_parts::replies::Reply;
+use vector_parts::replies::UNSET;
+use vector_values::head;
+use vector_values::values::LONGEST;
+
+fn plate_add(v: &[u64], buffer: &mut [u8], picture: &[u8]) -> Reply {
+    let mut after = UNSET as u64;
+    let number = plates::corbelrush_plate_add(
+        buffer,
+        head::number(v, 19),
+        picture,
+        head::word(v, 1),
+        head::word(v, 2),
+        head::word(v, 17),
+        head::half(v, 18),
+        &mut after,
+    );
+    replies::two(number, after, 0)
+}
+
+// Whether the reply and both buffers are as the vector says.
+fn left(v: &[u64], r: Reply, bytes: &[u8; LONGEST], other: &[u8; LONGEST]) -> bool {
+    if !replies::stored(v, r) {
+        return false;
+    }
+    if !buffers::bytes_left(v, parts::bytes(v), bytes) {
+        return false;
+    }
+    buffers::bytes_left(v, parts::other(v), other)
+}
+
+// Whether the call does what the vector says. It takes no list, and no sheet past 16 bits.
+pub fn agrees(v: &[u64]) -> bool {
+    if !replies::idle(v) {
+        return false;
+    }
+    let list = parts::list(v);
+    if list.count != 0 {
+        return false;
+    }
+    if 65535 < head::number(v, 18) {
+        return false;
+    }
+    let first = parts::bytes(v);
+    let second = parts::other(v);
+    let mut bytes = buffers::bytes(v, first);
+    let other = buffers::bytes(v, second);
+    let n = first.count;
+    let m = second.count;
+    let r = plate_add(v, &mut bytes[0..n], &other[0..m]);
+    left(v, r, &bytes, &other)
+}
