@@ -1,5 +1,6 @@
 /*
- * A tour of the library: a white square is blurred and moved, checked and sampled, and a call is refused.
+ * A tour of the library: a white square is blurred and moved, checked and sampled, a call is refused, and a plate is
+ * filled with pictures.
  * Pictures are printed as their alphas, from ' ' for 0 to '@' for 255.
  */
 #include <stdio.h>
@@ -11,7 +12,7 @@ enum { W = 32, H = 10, BYTES = 4 * W * H };
 static const float weights[] = {0.25f, 0.5f, 0.25f};
 enum { TAPS = sizeof weights / sizeof *weights };
 
-static uint8_t picture[BYTES], scratch[BYTES];
+static uint8_t picture[BYTES], scratch[BYTES], plate[16384];
 
 /* A white square in the upper left. */
 static void draw_square(void)
@@ -55,5 +56,20 @@ int main(void)
 
     corbelrush_spread(weights, TAPS, 1, &spread);
     printf("spread of the blur: %.2f square pixels\n", (double)spread / 131072);
+
+    uint64_t used, new_used, offset, length;
+    uint32_t w, h, number, count = 0;
+    corbelrush_plate_start(plate, sizeof plate, 1, &used);
+    for (;;) {
+        number = corbelrush_plate_add(plate, sizeof plate, used, picture, BYTES, W, H, 0, 0, &new_used);
+        if (number != CORBELRUSH_DONE) break;
+        used = new_used; /* not &used above: a refusal answers 0, and the length would be lost */
+        count++;
+    }
+    printf("a plate of %u pictures, %u bytes: one more is refused (%u)\n", (unsigned)count, (unsigned)used,
+           (unsigned)number);
+    corbelrush_plate_picture(plate, used, count - 1, &w, &h, &offset, &length);
+    printf("the last one is %u by %u, %u bytes from %u on\n", (unsigned)w, (unsigned)h, (unsigned)length,
+           (unsigned)offset);
     return 0;
 }

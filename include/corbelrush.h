@@ -1,12 +1,13 @@
 /*
- * Corbelrush: blur with decimation, pixel shift, drop shadow, and what graders ask of a picture, for C and C++.
+ * Corbelrush: blur with decimation, pixel shift, drop shadow, what graders ask of a picture, and plates, for C and C++.
  *
  * A picture is w by h pixels, each side 1 to 4096: bytes r, g, b, a for each pixel, premultiplied, row by row from the
  * top, exactly 4wh of them. Any byte values are taken.
  *
  * Every function but corbelrush_sample returns 0 when it is done, else the number of the first check that refuses: its
- * checks run in the order of their numbers. A call that is refused changes no byte of any buffer, and sets what it
- * answers through pointers to 0. Any values of the other arguments are taken; no function fails in another way.
+ * checks run in the order in which its refusals are listed below. A call that is refused changes no byte of any buffer,
+ * and sets what it answers through pointers to 0 unless its text says otherwise. Any values of the other arguments are
+ * taken; no function fails in another way.
  *
  * What C cannot check, and the caller sees to:
  *   - A buffer has as many bytes (weights: floats, each aligned) as the length beside it says. One of length 0 is not
@@ -39,9 +40,10 @@ enum {
     CORBELRUSH_NOT_FINITE = 7,    /* the strength or an offset is NaN or infinite */
     CORBELRUSH_WRONG_COLOUR = 8,  /* a colour component is NaN, below 0 or above 1 */
     CORBELRUSH_WRONG_EDGE = 9,    /* the edge number is none of the four below */
-    CORBELRUSH_BROKEN_PLATE = 10, /* the file breaks a rule of plates */
+    CORBELRUSH_BROKEN_PLATE = 10, /* the file breaks a rule of plates, no such version, or more in use than lent */
     CORBELRUSH_OFF_GRID = 11,     /* a weight is no multiple of 1/65536, or the weights do not sum to 1 */
-    CORBELRUSH_NO_PICTURE = 12    /* the plate has no picture of that index */
+    CORBELRUSH_NO_PICTURE = 12,   /* the plate has no picture of that index */
+    CORBELRUSH_NO_ROOM = 13       /* the plate would pass 64 pictures, 16384 bytes or its buffer */
 };
 
 /* What a picture is beyond its borders. */
@@ -141,6 +143,30 @@ uint32_t corbelrush_plate_picture(const uint8_t *plate, size_t plate_len, uint32
  * picture has are 0, the rest of it is as it was.
  */
 uint32_t corbelrush_plate_job(uint8_t *plate, size_t plate_len, uint8_t *scratch, size_t scratch_len);
+
+/*
+ * Starts a plate file of no pictures in the first bytes of buffer, whatever they held: *used is its length, 4. The
+ * version is the one that the plate keeps, and must be 1 for now.
+ *
+ * Refusals: 10 (there is no such version), 13 (buffer under 4 bytes); *used is 0.
+ * Done: the first *used bytes of buffer are the plate, the rest of it is as it was.
+ */
+uint32_t corbelrush_plate_start(uint8_t *buffer, size_t buffer_len, uint32_t version, uint64_t *used);
+
+/*
+ * Adds a picture to the plate file that the first used bytes of buffer are: its table gets one entry more, the pictures
+ * in it move on by that entry, and the new one comes last. Looked up in the new plate, each old picture has the index,
+ * the sides and the bytes that it had. Bytes after the first used ones are no part of the plate. A plate of version 1
+ * has no place for unit and sheet, and ignores both.
+ *
+ * Refusals, in this order: 10 (used is beyond buffer_len, or those bytes are no plate), 1, 2, 13 (the plate would have
+ * more than 64 pictures, more than 16384 bytes or more than buffer_len). On refusal *new_used is 0, so do not hand in
+ * the address of your own length.
+ * Done: the first *new_used bytes of buffer are the plate, the rest of it is as it was. The picture is only read.
+ */
+uint32_t corbelrush_plate_add(uint8_t *buffer, size_t buffer_len, uint64_t used, const uint8_t *picture,
+                              size_t picture_len, uint32_t w, uint32_t h, uint32_t unit, uint16_t sheet,
+                              uint64_t *new_used);
 
 #ifdef __cplusplus
 }
