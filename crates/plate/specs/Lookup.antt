@@ -1,7 +1,8 @@
--- Picture of a plate: its number, its sides, and which stretch of the caller's own file it is.
-use mathlib.Core.Bool.{not}
+-- Picture of a plate: its number, its sides, which stretch of the caller's own file it is, and its unit and sheet.
+use mathlib.Core.Path.{_≡_}
+use mathlib.Core.Bool.{true, not}
 use mathlib.Core.List.{List, [], _∷_}
-use Prim.Native.Nat.{ℕ, _+_}
+use Prim.Native.Nat.{ℕ, _+_, _<_}
 use lib.Dec.{leb}
 use lib.ListN.{take, drop}
 use denote.Ref.{RefT, ptr, now}
@@ -12,6 +13,12 @@ use Rattle.plate_format.specs.Format.{count, entryOf, bodyOffset, isPlate}
 use Rattle.plate.specs.declared.Refusal.{Refusal}
 use Rattle.plate.specs.declared.Refusal.the-variants.{BrokenPlate, NoPicture}
 use Rattle.plate.specs.declared.Stretch.{Stretch}
+use Rattle.plate.specs.declared.Asked.{Asked}
+use Rattle.plate.specs.declared.Asked.the-variants.{Unlisted, Listed}
+use Rattle.plate.specs.declared.Unit.{Unit}
+use Rattle.plate.specs.declared.Unit.the-variants.{Unnamed, Milliohm, Microohm}
+use Rattle.plate.specs.declared.Labelling.{Labelling}
+use Rattle.plate.specs.declared.Labelling.the-variants.{NoLabel, Named}
 use Rattle.plate.specs.declared.Lookup.{Lookup}
 use Rattle.plate.specs.declared.Lookup.the-variants.{Refused, Found}
 
@@ -44,6 +51,24 @@ lookupChecks file index = check 10 (not (isPlate file)) ∷ check 12 (leb (count
 unfoldable pub lookedUp : List ℕ → ℕ → Answer Picture
 lookedUp file index = settled (firstOf (lookupChecks file index)) nothing (pictureOf file index)
 
+-- the values beside a picture: its unit (1 milliohm, 2 microohm, 0 none) and its sheet
+pub record Beside : Type 0 where
+  pub unit : ℕ
+  pub sheet : ℕ
+
+abbrev pub beside : ℕ → ℕ → Beside
+beside unit sheet = record { unit = unit; sheet = sheet }
+
+-- Label of a picture: the same checks; unit and sheet of that index, which are 0 in version 1 and where it is refused
+unfoldable pub labelledUp : List ℕ → ℕ → Answer Beside
+labelledUp file index = settled (firstOf (lookupChecks file index)) (beside 0 0) (beside (entryOf file index .unit) (entryOf file index .sheet))
+
+-- the number of each unit
+abbrev pub unitNumber : Unit → ℕ
+unitNumber Unnamed = 0
+unitNumber Milliohm = 1
+unitNumber Microohm = 2
+
 -- the number of each refusal
 abbrev pub lookupNumber : Refusal → ℕ
 lookupNumber BrokenPlate = 10
@@ -61,3 +86,13 @@ stretchIn p = record { offset = p .offset; length = p .length }
 -- that stretch of the caller's own file: offset bytes after the file's own start, and length bytes long
 abbrev pub stretchOf : RefT (List ℕ) → Picture → SlicePart
 stretchOf file p = record { block = ptr file .0; start = ptr file .1 + p .offset; bytes = take (p .length) (drop (p .offset) (now file)) }
+
+-- the same of a label
+abbrev pub labels : Labelling → Answer Beside
+labels (NoLabel r) = answered (lookupNumber r) (beside 0 0)
+labels (Named unit sheet) = answered 0 (beside (unitNumber unit) sheet)
+
+-- what asking for an entry finds: the number that its checks give, or the entry of a plate
+abbrev pub Finds : List ℕ → ℕ → Asked → Type 0
+Finds file index (Unlisted r) = lookupNumber r ≡ firstOf (lookupChecks file index)
+Finds file index (Listed e) = (isPlate file ≡ true) × (index < count file) × (e ≡ entryOf file index)

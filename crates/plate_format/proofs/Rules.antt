@@ -9,7 +9,7 @@ use lib.ListN.{length}
 use borrow.Author.Tests.{leb-true, le-leb, eqb-true, not-true, not-false}
 use Rattle.picture.specs.Planes.{bytesOf}
 use Rattle.picture.specs.Refusal.{wrongSides, wrongLength}
-use Rattle.plate_format.specs.Format.{version, count, known, maxCount, largestSide, largestWhole, entryAt, entryOf, bodyOffset, wrongSidesOf, obeys, entryObeys, filled, isPlate}
+use Rattle.plate_format.specs.Format.{version, count, known, maxCount, largestSide, largestWhole, entryAt, entryOf, bodyOffset, wrongSidesOf, wrongUnit, obeys, entryObeys, filled, isPlate}
 use Rattle.plate_format.specs.Needs.{Tabled}
 use Rattle.plate_format.specs.declared.Entry.{Entry}
 use Rattle.plate_format.proofs.Tests.{both, all-at}
@@ -64,6 +64,7 @@ module _ (file : List ℕ) where
   pub record Obeyed (i : ℕ) : Type 0 where
     pub sides : wrongSides (entryOf file i .width) (entryOf file i .height) ≡ false
     pub long : entryOf file i .length ≡ bytesOf (entryOf file i .width) (entryOf file i .height)
+    pub named : wrongUnit (version file) (entryOf file i .unit) ≡ false
     pub starts : entryOf file i .offset ≡ bodyOffset file i
     pub ends : bodyOffset file i + entryOf file i .length ≤ length file
 
@@ -78,10 +79,12 @@ module _ (file : List ℕ) where
         let r = rules plate in
         let e = entryOf file i in
         let o = both _ _ (r .bodies .obeyed i l) in
-        let s = both _ _ (o .0) in
+        let u = both _ _ (o .0) in
+        let s = both _ _ (u .0) in
         record {
           sides = sym (sides-are (version file) e) ∙ not-true _ (s .0);
           long = eqb-true _ _ (not-false _ (not-true _ (s .1)));
+          named = not-true _ (u .1);
           starts = eqb-true _ _ (o .1);
           ends = omega (arith, r .bodies .exact, offset-up file l);
         }

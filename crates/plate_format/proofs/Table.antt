@@ -1,23 +1,38 @@
 -- Laws of the table: an entry holds its fields, its place fits, and it lies within the table.
-use mathlib.Core.Path.{_≡_}
-use mathlib.Core.Bool.{true}
+use mathlib.Core.Path.{_≡_, refl}
+use mathlib.Core.Bool.{Bool, true, false, cond, _||_}
 use mathlib.Core.List.{List}
 use Prim.Native.Nat.{ℕ, _+_, _-_, _*_, _<_, _≤_}
 use native.Mathlib.Nat.{mul-le-mul}
 use native.Mathlib.Omega.{arith}
 use lib.ListN.{getD}
-use borrow.Author.Tests.{eqb-true}
+use lib.Dec.{eqb, ltb}
+use borrow.Author.Tests.{ltb-false, not-true}
+use Rattle.picture.specs.Refusal.{zeroOrAbove}
+use Rattle.picture.proofs.Tests.{neither}
 use Rattle.picture.proofs.Planes.{pixel-fits}
-use Rattle.plate_format.specs.Format.{u16At, u32At, version, count, known, entrySize, largestWhole, entryAt, entryOf}
+use Rattle.plate_format.specs.Format.{u16At, u32At, version, count, newest, known, labelled, entrySize, largestWhole, entryAt, labelAt, entryOf}
+
+-- an entry has 16 bytes with a label and 12 without one
+pub with-label : (v : ℕ) → labelled v ≡ true → entrySize v ≡ 16
+unfolding entrySize
+with-label v e = rw e
+
+pub without-label : (v : ℕ) → labelled v ≡ false → entrySize v ≡ 12
+unfolding entrySize
+without-label v e = rw e
 
 pub entry-room : (v : ℕ) → (12 ≤ entrySize v) × (entrySize v ≤ 65536)
-unfolding entrySize
-entry-room v = omega arith
+entry-room v = by (labelled v) refl
+  where
+    by : (b : Bool) → labelled v ≡ b → (12 ≤ entrySize v) × (entrySize v ≤ 65536)
+    by true e = omega (arith, with-label v e)
+    by false e = omega (arith, without-label v e)
 
 -- a version that there is has room in two bytes, and its plates in four
 pub known-small : (v : ℕ) → known v ≡ true → v < 65536
-unfolding known
-known-small v h = omega (arith, eqb-true v 1 h)
+unfolding known newest zeroOrAbove
+known-small v h = omega (arith, ltb-false 2 v (neither (eqb v 0) (ltb 2 v) (not-true (eqb v 0 || ltb 2 v) h) .1))
 
 pub whole-small : (v : ℕ) → (4 ≤ largestWhole v) × (largestWhole v ≤ 16777216)
 unfolding largestWhole
@@ -43,12 +58,21 @@ module _ (xs ys : List ℕ) (a b : ℕ) (same : (k : ℕ) → a ≤ k → k < b 
   unfolding u32At
   same-u32 at l m = rw (same-u16 at l (omega arith), same-u16 (at + 2) (omega arith) (omega arith))
 
+  same-label : (v at : ℕ) → a ≤ at → (labelled v ≡ true → at + 1 < b) → labelAt v xs at ≡ labelAt v ys at
+  unfolding labelAt
+  same-label v at l m = by (labelled v) refl
+    where
+      by : (t : Bool) → labelled v ≡ t → cond t (u16At xs at) 0 ≡ cond t (u16At ys at) 0
+      by true e = same-u16 at l (m e)
+      by false e = refl
+
   -- an entry of one version whose bytes lie there
   pub entry-same : version xs ≡ version ys → (i : ℕ) → a ≤ entryAt ys i → entryAt ys i + entrySize (version ys) ≤ b → entryOf xs i ≡ entryOf ys i
   unfolding entryOf
   entry-same v i l m =
       let room = entry-room (version ys) in
-      rw (v, same-u16 (entryAt ys i) l (omega arith), same-u16 (entryAt ys i + 2) (omega arith) (omega arith), same-u32 (entryAt ys i + 4) (omega arith) (omega arith), same-u32 (entryAt ys i + 8) (omega arith) (omega arith))
+      let label : (k : ℕ) → k ≤ 14 → labelled (version ys) ≡ true → entryAt ys i + k + 1 < b = λ k few e. omega (arith, with-label (version ys) e) in
+      rw (v, same-u16 (entryAt ys i) l (omega arith), same-u16 (entryAt ys i + 2) (omega arith) (omega arith), same-u32 (entryAt ys i + 4) (omega arith) (omega arith), same-u32 (entryAt ys i + 8) (omega arith) (omega arith), same-label (version ys) (entryAt ys i + 12) (omega arith) (label 12 (omega arith)), same-label (version ys) (entryAt ys i + 14) (omega arith) (label 14 (omega arith)))
 
 -- bytes that agree up to the table's end have one table
 module _ (a b : List ℕ) (n : ℕ) (same : (k : ℕ) → k < n → getD a k 0 ≡ getD b k 0) (table : entryAt b (count b) ≤ n) where

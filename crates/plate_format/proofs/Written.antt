@@ -1,5 +1,6 @@
 -- What is read of a plate that was written: its version, its count and each entry.
 use mathlib.Core.Path.{_≡_, refl, _∙_, sym, ap}
+use mathlib.Core.Bool.{Bool, true, false, cond}
 use mathlib.Core.List.{List, [], _∷_, _++_, append-assoc}
 use mathlib.Core.Logic.{⊎-elim}
 use Prim.Native.Nat.{ℕ, zero, suc, _+_, _*_, _<_}
@@ -7,16 +8,13 @@ use native.Mathlib.Nat.{eq-or-lt-of-le}
 use native.Mathlib.Omega.{arith}
 use lib.ListN.{length, getD, length-append}
 use lib.Seq.{getD-append-add}
-use Rattle.plate_format.specs.Format.{u16At, u32At, version, count, entrySize, entryAt, entryOf}
-use Rattle.plate_format.specs.Written.{bytes16, bytes32, headerBytes, entryBytes, tableOf, plateOf}
+use Rattle.plate_format.specs.Format.{u16At, u32At, version, count, labelled, entrySize, entryAt, labelAt, entryOf}
+use Rattle.plate_format.specs.Written.{bytes16, bytes32, headerBytes, labelBytes, entryBytes, tableOf, plateOf}
 use Rattle.plate_format.specs.declared.Entry.{Entry}
 
--- fields that have room in their bytes
-pub record Fitting (e : Entry) : Type 0 where
-  pub width : e .width < 65536
-  pub height : e .height < 65536
-  pub offset : e .offset < 4294967296
-  pub length : e .length < 4294967296
+-- an entry without a label has 0 for it where its version has none
+abbrev pub Apt : ℕ → Entry → Type 0
+Apt v e = labelled v ≡ false → (e .unit ≡ 0) × (e .sheet ≡ 0)
 
 -- a number past the first bytes is a number of the rest
 module _ (xs ys : List ℕ) (n k at : ℕ) (long : length xs ≡ n) (e : k ≡ n + at) where
@@ -34,31 +32,69 @@ u32-past : (xs ys : List ℕ) (n k at : ℕ) → length xs ≡ n → k ≡ n + a
 unfolding u32At
 u32-past xs ys n k at l e = rw (u16-past xs ys n k at l e, u16-past xs ys n (k + 2) (at + 2) l (omega arith))
 
+label-past : (v : ℕ) (xs ys : List ℕ) (n k at : ℕ) → length xs ≡ n → k ≡ n + at → labelAt v (xs ++ ys) k ≡ labelAt v ys at
+unfolding labelAt
+label-past v xs ys n k at l e = rw (u16-past xs ys n k at l e)
+
 -- an entry that stands first
-module _ (v : ℕ) (e : Entry) (ys : List ℕ) (r : Fitting e) where
+module _ (v : ℕ) (e : Entry) (ys : List ℕ) (apt : Apt v e) where
   width-first : u16At (entryBytes v e ++ ys) 0 ≡ e .width
   unfolding entryBytes bytes32 bytes16 u16At
-  width-first = omega (arith, r .width)
+  width-first = omega arith
 
   height-first : u16At (entryBytes v e ++ ys) 2 ≡ e .height
   unfolding entryBytes bytes32 bytes16 u16At
-  height-first = omega (arith, r .height)
+  height-first = omega arith
 
   offset-first : u32At (entryBytes v e ++ ys) 4 ≡ e .offset
   unfolding entryBytes bytes32 bytes16 u32At u16At
-  offset-first = omega (arith, r .offset)
+  offset-first = omega arith
 
   length-first : u32At (entryBytes v e ++ ys) 8 ≡ e .length
   unfolding entryBytes bytes32 bytes16 u32At u16At
-  length-first = omega (arith, r .length)
+  length-first = omega arith
+
+  -- a field of the label: as it was written, or 0
+  label-first : (at field : ℕ) → (labelled v ≡ true → u16At (entryBytes v e ++ ys) at ≡ field) → (labelled v ≡ false → field ≡ 0) → labelAt v (entryBytes v e ++ ys) at ≡ field
+  unfolding labelAt
+  label-first at field written none = by (labelled v) refl
+    where
+      by : (b : Bool) → labelled v ≡ b → cond b (u16At (entryBytes v e ++ ys) at) 0 ≡ field
+      by true t = written t
+      by false t = sym (none t)
+
+  unit-first : labelAt v (entryBytes v e ++ ys) 12 ≡ e .unit
+  unfolding entryBytes labelBytes bytes32 bytes16 u16At
+  unit-first = label-first 12 (e .unit) (λ t. rw t (omega arith)) (λ t. apt t .0)
+
+  sheet-first : labelAt v (entryBytes v e ++ ys) 14 ≡ e .sheet
+  unfolding entryBytes labelBytes bytes32 bytes16 u16At
+  sheet-first = label-first 14 (e .sheet) (λ t. rw t (omega arith)) (λ t. apt t .1)
+
+-- a label's bytes, where the version has one and where it has none
+pub label-there : (v unit sheet : ℕ) → labelled v ≡ true → labelBytes v unit sheet ≡ bytes16 unit ++ bytes16 sheet
+unfolding labelBytes
+label-there v unit sheet t = rw t
+
+pub label-none : (v unit sheet : ℕ) → labelled v ≡ false → labelBytes v unit sheet ≡ []
+unfolding labelBytes
+label-none v unit sheet t = rw t
+
+pub length-label : (v unit sheet : ℕ) → 12 + length (labelBytes v unit sheet) ≡ entrySize v
+unfolding labelBytes bytes16 entrySize
+length-label v unit sheet = by (labelled v)
+  where
+    by : (b : Bool) → 12 + length (cond b (bytes16 unit ++ bytes16 sheet) []) ≡ cond b 16 12
+    by true = refl
+    by false = refl
 
 pub length-header : (v n : ℕ) → length (headerBytes v n) ≡ 4
 unfolding headerBytes bytes16
 length-header v n = refl
 
 pub length-entry : (v : ℕ) (e : Entry) → length (entryBytes v e) ≡ entrySize v
-unfolding entryBytes bytes32 bytes16 entrySize
-length-entry v e = refl
+unfolding entryBytes bytes32 bytes16
+length-entry v e = omega (arith, length-label v (e .unit) (e .sheet))
 
 pub length-table : (v : ℕ) (f : ℕ → Entry) (n : ℕ) → length (tableOf v f n) ≡ n * entrySize v
 unfolding tableOf
@@ -81,13 +117,13 @@ cut v f (suc n) i tail l =
     (eq-or-lt-of-le (omega arith))
 
 module _ (v n : ℕ) (f : ℕ → Entry) (bodies : List ℕ) where
-  pub version-read : v < 65536 → version (plateOf v n f bodies) ≡ v
+  pub version-read : version (plateOf v n f bodies) ≡ v
   unfolding plateOf headerBytes bytes16 u16At
-  version-read l = omega arith
+  version-read = omega arith
 
-  pub count-read : n < 65536 → count (plateOf v n f bodies) ≡ n
+  pub count-read : count (plateOf v n f bodies) ≡ n
   unfolding plateOf headerBytes bytes16 u16At
-  count-read l = omega arith
+  count-read = omega arith
 
   module _ (i : ℕ) (l : i < n) where
     before : List ℕ
@@ -102,20 +138,24 @@ module _ (v n : ℕ) (f : ℕ → Entry) (bodies : List ℕ) where
     cut-plate =
         ap (λ (t : List ℕ). headerBytes v n ++ t) (cut v f n i bodies l .is) ∙ sym (append-assoc (headerBytes v n) (tableOf v f i) (entryBytes v (f i) ++ cut v f n i bodies l .rest))
 
-    pub entry-read : v < 65536 → Fitting (f i) → entryOf (plateOf v n f bodies) i ≡ f i
+    pub entry-read : Apt v (f i) → entryOf (plateOf v n f bodies) i ≡ f i
     unfolding entryOf
-    entry-read lv r =
+    entry-read apt =
         let rest = cut v f n i bodies l .rest in
         let ys = entryBytes v (f i) ++ rest in
         let at : ℕ = 4 + i * entrySize v in
-        rw (version-read lv, cut-plate)
+        rw (version-read, cut-plate)
         (rw (
           u16-past before ys at at 0 length-before (omega arith),
           u16-past before ys at (at + 2) 2 length-before (omega arith),
           u32-past before ys at (at + 4) 4 length-before (omega arith),
           u32-past before ys at (at + 8) 8 length-before (omega arith),
-          width-first v (f i) rest r,
-          height-first v (f i) rest r,
-          offset-first v (f i) rest r,
-          length-first v (f i) rest r,
+          label-past v before ys at (at + 12) 12 length-before (omega arith),
+          label-past v before ys at (at + 14) 14 length-before (omega arith),
+          width-first v (f i) rest apt,
+          height-first v (f i) rest apt,
+          offset-first v (f i) rest apt,
+          length-first v (f i) rest apt,
+          unit-first v (f i) rest apt,
+          sheet-first v (f i) rest apt,
         ))

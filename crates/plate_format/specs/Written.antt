@@ -1,6 +1,8 @@
 -- A plate's bytes as they are written: its numbers, its table, its bodies. What Format reads, the other way round.
+use mathlib.Core.Bool.{cond}
 use mathlib.Core.List.{List, [], _∷_, _++_}
 use Prim.Native.Nat.{ℕ, zero, suc, _/_, _%_}
+use Rattle.plate_format.specs.Format.{labelled}
 use Rattle.plate_format.specs.declared.Entry.{Entry}
 
 -- little-endian: a number in two bytes, and one in four
@@ -14,9 +16,14 @@ bytes32 n = bytes16 (n % 65536) ++ bytes16 (n / 65536)
 unfoldable pub headerBytes : ℕ → ℕ → List ℕ
 headerBytes v n = bytes16 v ++ bytes16 n
 
--- an entry: width, height (2 bytes), offset, length (4 bytes)
+-- unit and sheet (2 bytes), which version 1 does not have
+unfoldable pub labelBytes : ℕ → ℕ → ℕ → List ℕ
+labelBytes v unit sheet = cond (labelled v) (bytes16 unit ++ bytes16 sheet) []
+
+-- an entry: width, height (2 bytes), offset, length (4 bytes), unit and sheet
 unfoldable pub entryBytes : ℕ → Entry → List ℕ
-entryBytes v e = bytes16 (e .width) ++ (bytes16 (e .height) ++ (bytes32 (e .offset) ++ bytes32 (e .length)))
+entryBytes v e =
+    bytes16 (e .width) ++ (bytes16 (e .height) ++ (bytes32 (e .offset) ++ (bytes32 (e .length) ++ labelBytes v (e .unit) (e .sheet))))
 
 -- the table of n entries of this version
 unfoldable pub tableOf : ℕ → (ℕ → Entry) → ℕ → List ℕ

@@ -1,8 +1,9 @@
 // The plate file: its numbers, its table, and whether some bytes are a plate.
 ghost use mathlib.Core.Path.{_≡_};
+ghost use mathlib.Core.Bool.{true};
 ghost use Prim.Native.Nat.{_+_, _<_, _≤_};
 ghost use lib.ListN.{length};
-ghost use Rattle.plate_format.specs.Format.{u16At, u32At, version, count, known, entrySize, largestWhole, entryAt, entryOf, bodyOffset, obeys, filled, isPlate};
+ghost use Rattle.plate_format.specs.Format.{u16At, u32At, version, count, known, labelled, entrySize, largestWhole, entryAt, labelAt, entryOf, bodyOffset, wrongUnit, obeys, filled, isPlate};
 ghost use Rattle.plate_format.specs.Needs.{Tabled};
 
 // The version and the count stand in the first bytes, and the table after them.
@@ -11,12 +12,17 @@ pub const HEADER: usize = 4;
 // The most pictures of a plate.
 pub const MAX_COUNT: usize = 64;
 
-// One entry of the table, as the file has it.
+// The newest version of the plate file.
+const NEWEST: usize = 2;
+
+// One entry of the table, as the file has it; version 1 has no unit and no sheet, which are 0 there.
 pub struct Entry {
     pub width: u16,
     pub height: u16,
     pub offset: u32,
     pub length: u32,
+    pub unit: u16,
+    pub sheet: u16,
 }
 
 // A number of two bytes, little-endian.
@@ -55,14 +61,21 @@ pub fn count(file: &[u8]) -> usize
 pub fn known(v: u32) -> bool
     ensures { λ r. ⌜ r ≡ known v ⌝ }
 {
-    v == 1
+    !picture::zero_or_above(NEWEST, v as usize)
+}
+
+// Whether a version has a unit and a sheet beside each picture.
+pub fn labelled(v: u16) -> bool
+    ensures { λ r. ⌜ r ≡ labelled v ⌝ }
+{
+    v != 1
 }
 
 // How many bytes an entry of this version's table has.
 pub fn entry_size(v: u16) -> usize
     ensures { λ r. ⌜ r ≡ entrySize v ⌝ }
 {
-    12
+    if labelled(v) { 16 } else { 12 }
 }
 
 // The most bytes that a plate of this version has.
@@ -88,18 +101,39 @@ pub fn table_end(file: &[u8]) -> usize
     entry_at(file, count(file))
 }
 
+// A number of two bytes that version 1 does not have.
+fn label_at(v: u16, file: &[u8], at: usize) -> u16
+    requires { ⌜ (labelled v ≡ true → at + 1 < length (now file)) ⌝ }
+    ensures { λ r. ⌜ r ≡ labelAt v (now (file .entry)) at ⌝ }
+{
+    if labelled(v) { u16_at(file, at) } else { 0 }
+}
+
 // Entry i of the table.
 pub fn read_entry(file: &[u8], i: usize) -> Entry
     requires { ⌜ Tabled (now file) × (i < count (now file)) ⌝ }
     ensures { λ r. ⌜ r ≡ entryOf (now (file .entry)) i ⌝ }
 {
+    let v = version(file);
     let at = entry_at(file, i);
     Entry {
         width: u16_at(file, at),
         height: u16_at(file, at + 2),
         offset: u32_at(file, at + 4),
         length: u32_at(file, at + 8),
+        unit: label_at(v, file, at + 12),
+        sheet: label_at(v, file, at + 14),
     }
+}
+
+// Whether a unit is none of this version's.
+pub fn wrong_unit(v: u16, unit: u32) -> bool
+    ensures { λ r. ⌜ r ≡ wrongUnit v unit ⌝ }
+{
+    if !labelled(v) {
+        return false;
+    }
+    picture::zero_or_above(2, unit as usize)
 }
 
 // Whether an entry whose body starts here obeys the rules.
@@ -112,6 +146,9 @@ fn obeys(v: u16, start: usize, e: Entry) -> bool
         return false;
     }
     if picture::wrong_length(e.length as usize, w, h) {
+        return false;
+    }
+    if wrong_unit(v, e.unit as u32) {
         return false;
     }
     e.offset as usize == start

@@ -12,13 +12,14 @@ use borrow.Author.Tests.{ltb-true}
 use Rattle.picture.specs.Buffers.{copied}
 use Rattle.picture.specs.Planes.{bytesOf, laid}
 use Rattle.picture.specs.Refusal.{wrongSides}
-use Rattle.plate_format.specs.Format.{version, count, entrySize, entryAt, entryOf, bodyOffset, maxCount}
+use Rattle.plate_format.specs.Format.{version, count, entrySize, entryAt, entryOf, bodyOffset, maxCount, wrongUnit}
 use Rattle.plate_format.specs.Needs.{Tabled}
 use Rattle.plate_format.specs.Written.{headerBytes, tableOf, plateOf}
 use Rattle.plate_format.specs.declared.Entry.{Entry}
 use Rattle.plate_format.proofs.Rules.{plate-tabled, plate-entry}
 use Rattle.plate_format.proofs.Table.{entry-room, whole-small, same-version, same-count, same-entry}
 use Rattle.plate_format.proofs.Written.{length-header, length-table}
+use Rattle.plate.specs.Lookup.{Beside}
 use Rattle.plate_write.specs.Added.{newEntry, further, entryAfter, added, lengthAfter}
 use Rattle.plate_write.specs.Outcome.{inUse}
 use Rattle.plate_write.specs.Steps.{laidAt, Retabling, headAfter, Adding}
@@ -26,7 +27,7 @@ use Rattle.plate_write.proofs.Laid.{laid-first, laid-length, laid-below
 use Rattle.plate_write.proofs.Retabled.{table-same}
 use Rattle.plate_write.proofs.Room.{plate-small, Roomy, roomy}
 
-module _ {buffer : List ℕ} {used w h : ℕ} {picture : List ℕ} (ready : Adding buffer used w h picture) where
+module _ {buffer : List ℕ} {used w h unit : ℕ} {picture : List ℕ} (ready : Adding buffer used w h unit picture) where
   abbrev file : List ℕ
   file = inUse buffer used
 
@@ -62,8 +63,8 @@ module _ {buffer : List ℕ} {used w h : ℕ} {picture : List ℕ} (ready : Addi
   few = omega (arith, room .few)
 
   -- what the new entry needs
-  pub new-fits : (4 ≤ length file) × (wrongSides w h ≡ false) × (lengthAfter file w h < 4294967296)
-  new-fits = (omega (arith, tabled .inside), ready .sides, omega (arith, room .whole, whole-small (version file) .1))
+  pub new-fits : (4 ≤ length file) × (wrongSides w h ≡ false) × (lengthAfter file w h < 4294967296) × (wrongUnit (version file) unit ≡ false)
+  new-fits = (omega (arith, tabled .inside), ready .sides, omega (arith, room .whole, whole-small (version file) .1), ready .named)
 
   -- how long the plate will be
   pub length-is : {start : ℕ} → start ≡ used + size → start + length picture ≡ lengthAfter file w h
@@ -149,26 +150,26 @@ module _ {buffer : List ℕ} {used w h : ℕ} {picture : List ℕ} (ready : Addi
     front-long new = omega (arith, length-append (headAfter file new) (drop first file), head-long new, bodies-long, first-low)
 
     -- header and table, the bodies, and the picture
-    whole-is : (headAfter file (newEntry file w h) ++ drop first file) ++ picture ≡ added file w h picture
+    whole-is : (label : Beside) → (headAfter file (newEntry file w h label) ++ drop first file) ++ picture ≡ added file w h label picture
     unfolding added plateOf
-    whole-is =
-        append-assoc (headAfter file (newEntry file w h)) (drop first file) picture
-        ∙ append-assoc (headerBytes (version file) (count file + 1)) (tableOf (version file) (entryAfter file (newEntry file w h)) (count file + 1)) (drop first file ++ picture)
+    whole-is label =
+        append-assoc (headAfter file (newEntry file w h label)) (drop first file) picture
+        ∙ append-assoc (headerBytes (version file) (count file + 1)) (tableOf (version file) (entryAfter file (newEntry file w h label)) (count file + 1)) (drop first file ++ picture)
 
-    pub appended : {start : ℕ} {headed last : List ℕ} → start ≡ used + size →
-        headed ≡ laid (headAfter now (newEntry file w h)) now →
+    pub appended : (label : Beside) {start : ℕ} {headed last : List ℕ} → start ≡ used + size →
+        headed ≡ laid (headAfter now (newEntry file w h label)) now →
         last ≡ take start headed ++ (picture ++ drop (start + length picture - start) (drop start headed)) →
-        last ≡ laid (added file w h picture) buffer
-    appended {start} {headed} s e f =
+        last ≡ laid (added file w h label picture) buffer
+    appended label {start} {headed} s e f =
         f
         ∙ laid-part start picture headed
         ∙ ap (laidAt start picture) front
         ∙ laid-next 0 (head ++ drop first file) buffer picture start (omega (arith, front-long new)) (omega (arith, front-long new, fits))
         ∙ laid-first ((head ++ drop first file) ++ picture) buffer
-        ∙ ap (λ (t : List ℕ). laid t buffer) whole-is
+        ∙ ap (λ (t : List ℕ). laid t buffer) (whole-is label)
       where
         new : Entry
-        new = newEntry file w h
+        new = newEntry file w h label
 
         head : List ℕ
         head = headAfter file new

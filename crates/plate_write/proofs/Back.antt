@@ -12,14 +12,13 @@ use lib.Seq.{take-append-le, drop-append-le, drop-append-add, drop-drop, drop-le
 use borrow.Author.Tests.{lt-ltb, le-ltb, le-leb, lt-leb, eq-eqb}
 use Rattle.picture.specs.Planes.{bytesOf}
 use Rattle.picture.specs.Refusal.{wrongSides, wrongLength}
-use Rattle.plate_format.specs.Format.{version, count, maxCount, entrySize, largestWhole, entryAt, entryOf, bodyOffset, obeys, entryObeys, allBelow, filled, isPlate}
+use Rattle.plate_format.specs.Format.{version, count, maxCount, labelled, labelAt, entrySize, largestWhole, entryAt, entryOf, bodyOffset, wrongUnit, obeys, entryObeys, allBelow, filled, isPlate}
 use Rattle.plate_format.specs.Written.{headerBytes, tableOf, plateOf}
 use Rattle.plate_format.specs.declared.Entry.{Entry}
 use Rattle.plate_format.proofs.Rules.{rules, sides-are, offset-up, plate-entry}
-use Rattle.plate_format.proofs.Table.{entry-room, known-small, whole-small}
-use Rattle.plate_format.proofs.Written.{Fitting, length-header, length-table, version-read, count-read, entry-read}
-use Rattle.plate_write.specs.Added.{further, newEntry, entryAfter, added, lengthAfter}
-use Rattle.plate_write.proofs.Room.{side-small}
+use Rattle.plate_format.proofs.Written.{Apt, length-header, length-table, version-read, count-read, entry-read}
+use Rattle.plate.specs.Lookup.{Beside}
+use Rattle.plate_write.specs.Added.{further, given, newEntry, entryAfter, added, lengthAfter}
 
 -- a test that holds at each number below n
 all-below : (f : ℕ → Bool) (n : ℕ) → ((i : ℕ) → i < n → f i ≡ true) → allBelow n f ≡ true
@@ -28,27 +27,41 @@ all-below f zero h = refl
 all-below f (suc n) h = rw (all-below f n (λ i l. h i (omega arith)), h n (omega arith))
 
 -- what an entry obeys, from its parts
-obeyed : (v start : ℕ) (e : Entry) → wrongSides (e .width) (e .height) ≡ false → e .length ≡ bytesOf (e .width) (e .height) → e .offset ≡ start → obeys v start e ≡ true
+obeyed : (v start : ℕ) (e : Entry) → wrongSides (e .width) (e .height) ≡ false → e .length ≡ bytesOf (e .width) (e .height) → wrongUnit v (e .unit) ≡ false → e .offset ≡ start → obeys v start e ≡ true
 unfolding obeys wrongLength
-obeyed v start e s l o = rw (sides-are v e ∙ s, eq-eqb (e .length) (bytesOf (e .width) (e .height)) l, eq-eqb (e .offset) start o)
+obeyed v start e s l u o = rw (sides-are v e ∙ s, eq-eqb (e .length) (bytesOf (e .width) (e .height)) l, u, eq-eqb (e .offset) start o)
+
+-- a label that is given has 0 where the version has none, and its unit is as right as the one given
+given-none : (v n : ℕ) → labelled v ≡ false → given v n ≡ 0
+unfolding given
+given-none v n t = rw t
+
+given-named : (v unit : ℕ) → wrongUnit v unit ≡ false → wrongUnit v (given v unit) ≡ false
+unfolding wrongUnit given
+given-named v unit e = by (labelled v) refl
+  where
+    by : (b : Bool) → labelled v ≡ b → wrongUnit v (given v unit) ≡ false
+    by true t = rw t (rw t at e)
+    by false t = rw t
 
 -- a plate, and a picture that has room in it
-pub record Addable (file : List ℕ) (w h : ℕ) (picture : List ℕ) : Type 0 where
+pub record Addable (file : List ℕ) (w h : ℕ) (label : Beside) (picture : List ℕ) : Type 0 where
   pub plate : isPlate file ≡ true
+  pub named : wrongUnit (version file) (label .unit) ≡ false
   pub sides : wrongSides w h ≡ false
   pub exact : length picture ≡ bytesOf w h
   pub few : count file < maxCount
   pub whole : lengthAfter file w h ≤ largestWhole (version file)
 
-module _ {file : List ℕ} {w h : ℕ} {picture : List ℕ} (ok : Addable file w h picture) where
+module _ {file : List ℕ} {w h : ℕ} {label : Beside} {picture : List ℕ} (ok : Addable file w h label picture) where
   abbrev A : List ℕ
-  A = added file w h picture
+  A = added file w h label picture
 
   abbrev size : ℕ
   size = entrySize (version file)
 
   abbrev new : Entry
-  new = newEntry file w h
+  new = newEntry file w h label
 
   abbrev after : ℕ → Entry
   after = entryAfter file new
@@ -56,16 +69,6 @@ module _ {file : List ℕ} {w h : ℕ} {picture : List ℕ} (ok : Addable file w
   fits : length file + size + bytesOf w h ≤ largestWhole (version file)
   unfolding lengthAfter
   fits = ok .whole
-
-  small : length file + size + bytesOf w h < 4294967296
-  small = omega (arith, fits, whole-small (version file) .1)
-
-  v-small : version file < 65536
-  v-small = known-small (version file) (rules file (ok .plate) .version-is)
-
-  n-small : count file < 65535
-  unfolding maxCount
-  n-small = omega (arith, ok .few)
 
   pub last : bodyOffset file (count file) ≡ length file
   last = sym (rules file (ok .plate) .bodies .exact)
@@ -82,31 +85,28 @@ module _ {file : List ℕ} {w h : ℕ} {picture : List ℕ} (ok : Addable file w
   by-index : (i : ℕ) → i < count file + 1 → (P : ℕ → Type 0) → ((k : ℕ) → k < count file → P k) → P (count file) → P i
   by-index i l P old newest = ⊎-elim (λ (e : i ≡ count file). rw e newest) (λ lt. old i lt) (eq-or-lt-of-le (omega arith))
 
-  room : (i : ℕ) → i < count file + 1 → Fitting (after i)
-  room i l =
-      by-index i l (λ k. Fitting (after k)) old
-      (rw new-entry
-      (record { width = side-small w h (ok .sides) .0; height = side-small w h (ok .sides) .1; offset = omega (arith, small); length = omega (arith, small) }))
-    where
-      old : (k : ℕ) → k < count file → Fitting (after k)
-      old k lk =
-          let o = plate-entry file (ok .plate) k lk in
-          let s = side-small (entryOf file k .width) (entryOf file k .height) (o .sides) in
-          rw (old-entry k lk)
-          (record { width = s .0; height = s .1; offset = omega (arith, o .starts, o .ends, small); length = omega (arith, o .ends, small) })
+  -- the old entries were read, so that version 1 has no label in them
+  old-none : (i : ℕ) → Apt (version file) (entryOf file i)
+  unfolding entryOf labelAt
+  old-none i t = rw t (refl, refl)
+
+  apt : (i : ℕ) → i < count file + 1 → Apt (version file) (after i)
+  apt i l =
+      by-index i l (λ k. Apt (version file) (after k)) (λ k lk. rw (old-entry k lk) (old-none k))
+      (rw new-entry (λ t. (given-none (version file) (label .unit) t, given-none (version file) (label .sheet) t)))
 
   -- what is read of the new plate
   pub version-kept : version A ≡ version file
   unfolding added
-  version-kept = version-read (version file) (count file + 1) after _ v-small
+  version-kept = version-read (version file) (count file + 1) after _
 
   pub count-more : count A ≡ count file + 1
   unfolding added
-  count-more = count-read (version file) (count file + 1) after _ (omega (arith, n-small))
+  count-more = count-read (version file) (count file + 1) after _
 
   entry-is : (i : ℕ) → i < count file + 1 → entryOf A i ≡ after i
   unfolding added
-  entry-is i l = entry-read (version file) (count file + 1) after _ i l v-small (room i l)
+  entry-is i l = entry-read (version file) (count file + 1) after _ i l (apt i l)
 
   pub old-entry-is : (i : ℕ) → i < count file → entryOf A i ≡ further size (entryOf file i)
   old-entry-is i l = entry-is i (omega arith) ∙ old-entry i l
@@ -180,8 +180,8 @@ module _ {file : List ℕ} {w h : ℕ} {picture : List ℕ} (ok : Addable file w
       (λ k lk.
       let o = plate-entry file (ok .plate) k lk in
       rw (old-entry-is k lk, offset-is k (omega arith))
-      (obeyed (version A) (bodyOffset file k + size) (further size (entryOf file k)) (o .sides) (o .long) (ap (λ (x : ℕ). x + size) (o .starts))))
-      (rw (new-entry-is, offset-is (count file) (omega arith)) (obeyed (version A) (bodyOffset file (count file) + size) new (ok .sides) refl (rw last)))
+      (obeyed (version A) (bodyOffset file k + size) (further size (entryOf file k)) (o .sides) (o .long) (rw version-kept (o .named)) (ap (λ (x : ℕ). x + size) (o .starts))))
+      (rw (new-entry-is, offset-is (count file) (omega arith)) (obeyed (version A) (bodyOffset file (count file) + size) new (ok .sides) refl (rw version-kept (given-named (version file) (label .unit) (ok .named))) (rw last)))
 
   pub still : isPlate A ≡ true
   unfolding isPlate filled

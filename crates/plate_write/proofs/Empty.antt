@@ -1,18 +1,18 @@
 -- A plate of no pictures: its version, its count, and that it is a plate.
 use mathlib.Core.Path.{_≡_, refl}
 use mathlib.Core.Bool.{true}
-use Prim.Native.Nat.{ℕ, _<_}
+use Prim.Native.Nat.{ℕ}
 use native.Mathlib.Nat.{zero-mul}
 use native.Mathlib.Omega.{arith}
 use borrow.Author.Tests.{le-leb, eq-eqb}
 use Rattle.plate_format.specs.Format.{u16At, version, count, known, maxCount, largestWhole, entrySize, bodyOffset, allBelow, filled, isPlate}
 use Rattle.plate_format.specs.Written.{bytes16, headerBytes}
-use Rattle.plate_format.proofs.Table.{known-small, whole-small}
+use Rattle.plate_format.proofs.Table.{whole-small}
 use Rattle.plate_write.specs.Added.{emptyPlate}
 
-pub empty-version : (v : ℕ) → v < 65536 → version (emptyPlate v) ≡ v
+pub empty-version : (v : ℕ) → version (emptyPlate v) ≡ v
 unfolding headerBytes bytes16 u16At
-empty-version v l = omega arith
+empty-version v = omega arith
 
 pub empty-count : (v : ℕ) → count (emptyPlate v) ≡ 0
 unfolding headerBytes bytes16 u16At
@@ -20,4 +20,4 @@ empty-count v = omega arith
 
 pub empty-plate : (v : ℕ) → known v ≡ true → isPlate (emptyPlate v) ≡ true
 unfolding isPlate filled allBelow bodyOffset maxCount headerBytes bytes16 u16At
-empty-plate v k = rw (empty-version v (known-small v k), k, empty-count v, zero-mul, le-leb 4 (largestWhole v) (whole-small v .0))
+empty-plate v k = rw (empty-version v, k, empty-count v, zero-mul, le-leb 4 (largestWhole v) (whole-small v .0))

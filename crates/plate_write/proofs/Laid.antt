@@ -5,7 +5,7 @@ use mathlib.Core.Logic.{⊎-elim}
 use Prim.Native.Nat.{ℕ, _+_, _-_, _<_, _≤_}
 use native.Mathlib.Nat.{add-sub-cancel-left}
 use native.Mathlib.Omega.{arith}
-use lib.ListN.{length, getD, take, drop, length-append, length-drop}
+use lib.ListN.{length, getD, take, drop, length-append, length-drop, take-append-drop}
 use lib.Seq.{ext-getD, sets, sets-eq, length-take-le, take-take, drop-drop, take-append-le, take-at, drop-at, getD-take, getD-append-add, getD-drop}
 use Rattle.picture.specs.Planes.{laid}
 use Rattle.picture.specs.Buffers.{lineFrom, placedAt, copied}
@@ -102,6 +102,10 @@ module _ (a : ℕ) (x old : List ℕ) where
             drop-drop (length x) a (laidAt b y old)
             ∙ ap (λ (k : ℕ). drop k (laidAt b y old)) (sym e)
             ∙ rw (laid-is b y old) (drop-at (take b old) (y ++ drop (length y) (drop b old)) b high-long)
+
+-- no byte
+pub laid-none : (a : ℕ) (old : List ℕ) → old ≡ laidAt a [] old
+laid-none a old = sym (take-append-drop a old) ∙ sym (laid-is a [] old)
 
 -- the same of two steps
 pub laid-then : (a b : ℕ) (x y old : List ℕ) {mid new : List ℕ} → mid ≡ laidAt a x old → new ≡ laidAt b y mid → b ≡ a + length x → a + length x ≤ length old → new ≡ laidAt a (x ++ y) old

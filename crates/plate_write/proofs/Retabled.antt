@@ -5,7 +5,7 @@ use Prim.Native.Nat.{ℕ, zero, suc, _+_, _*_, _<_, _≤_}
 use native.Mathlib.Nat.{mul-le-mul-right, add-mul, one-mul}
 use native.Mathlib.Numerals.{add-one}
 use native.Mathlib.Omega.{arith}
-use lib.ListN.{length, take-append-drop}
+use lib.ListN.{length}
 use borrow.Author.Tests.{lt-ltb, le-ltb}
 use Rattle.picture.specs.Planes.{laid}
 use Rattle.plate_format.specs.Format.{version, count, entrySize, entryAt, entryOf}
@@ -16,7 +16,7 @@ use Rattle.plate_format.proofs.Table.{entry-room, entry-inside, same-u16, entry
 use Rattle.plate_format.proofs.Written.{length-header, length-table}
 use Rattle.plate_write.specs.Added.{further, entryAfter}
 use Rattle.plate_write.specs.Steps.{laidAt, Retabling, headAfter}
-use Rattle.plate_write.proofs.Laid.{laid-first, laid-length, laid-below, laid-above, laid-next, laid-ahead}
+use Rattle.plate_write.proofs.Laid.{laid-first, laid-none, laid-length, laid-below, laid-above, laid-next, laid-ahead}
 
 -- one table, entry by entry
 pub table-same : (v : ℕ) (f g : ℕ → Entry) (n : ℕ) → ((i : ℕ) → i < n → f i ≡ g i) → tableOf v f n ≡ tableOf v g n
@@ -34,8 +34,8 @@ module _ (old : List ℕ) (ready : Retabling old) where
 
   -- none of them is written
   pub none-yet : old ≡ laidAt 4 (tableOf (version old) moved 0) old
-  unfolding tableOf laidAt laid
-  none-yet = sym (take-append-drop 4 old)
+  unfolding tableOf
+  none-yet = laid-none 4 old
 
   -- the first i of them are written
   module _ (i : ℕ) (l : i ≤ count old) where

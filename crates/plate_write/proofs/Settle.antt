@@ -1,6 +1,6 @@
 -- Laws of what starting and adding answer in each case of their checks.
 use mathlib.Core.Path.{_≡_, refl}
-use mathlib.Core.Bool.{true, false, not}
+use mathlib.Core.Bool.{true, false, not, _||_}
 use mathlib.Core.List.{List}
 use Prim.Native.Nat.{ℕ, _≤_}
 use native.Mathlib.Omega.{arith}
@@ -13,7 +13,8 @@ use Rattle.picture.specs.Refusal.{firstElse, firstOf, wrongSides, wrongLength}
 use Rattle.picture.proofs.Conditions.{each-passes, right-length}
 use Rattle.picture.proofs.Settled.{read}
 use Rattle.picture.proofs.Tests.{neither}
-use Rattle.plate_format.specs.Format.{known, isPlate}
+use Rattle.plate_format.specs.Format.{version, known, wrongUnit, isPlate}
+use Rattle.plate.specs.Lookup.{Beside}
 use Rattle.plate_write.specs.Added.{emptyPlate, added, lengthAfter, noRoom}
 use Rattle.plate_write.specs.Outcome.{Grown, grown, inUse, noPlate, startChecks, startOutcome, addChecks, addOutcome}
 use Rattle.plate_write.specs.Steps.{Adding}
@@ -39,57 +40,63 @@ module _ (buffer : List ℕ) (v : ℕ) where
       let passes = each-passes (startChecks (length buffer) v) (omega arith, (omega arith, tt)) .0 (t .number) in
       (not-false (known v) (passes .0), t .finished refl)
 
-module _ (buffer : List ℕ) (used : ℕ) (picture : List ℕ) (w h : ℕ) where
-  pub no-plate : noPlate buffer used ≡ true → answered 10 (grown buffer 0) ≡ addOutcome buffer used picture w h
+module _ (buffer : List ℕ) (used : ℕ) (picture : List ℕ) (w h : ℕ) (label : Beside) where
+  pub no-plate : noPlate buffer used (label .unit) ≡ true → answered 10 (grown buffer 0) ≡ addOutcome buffer used picture w h label
   unfolding addOutcome firstOf firstElse settled
   no-plate p = rw p
 
-  module _ (p : noPlate buffer used ≡ false) where
-    pub wrong-sides : wrongSides w h ≡ true → answered 1 (grown buffer 0) ≡ addOutcome buffer used picture w h
+  module _ (p : noPlate buffer used (label .unit) ≡ false) where
+    pub wrong-sides : wrongSides w h ≡ true → answered 1 (grown buffer 0) ≡ addOutcome buffer used picture w h label
     unfolding addOutcome firstOf firstElse settled
     wrong-sides s = rw (p, s)
 
     module _ (s : wrongSides w h ≡ false) where
-      pub wrong-length : wrongLength (length picture) w h ≡ true → answered 2 (grown buffer 0) ≡ addOutcome buffer used picture w h
+      pub wrong-length : wrongLength (length picture) w h ≡ true → answered 2 (grown buffer 0) ≡ addOutcome buffer used picture w h label
       unfolding addOutcome firstOf firstElse settled
       wrong-length l = rw (p, s, l)
 
       module _ (l : wrongLength (length picture) w h ≡ false) where
-        pub no-room : noRoom (length buffer) (inUse buffer used) w h ≡ true → answered 13 (grown buffer 0) ≡ addOutcome buffer used picture w h
+        pub no-room : noRoom (length buffer) (inUse buffer used) w h ≡ true → answered 13 (grown buffer 0) ≡ addOutcome buffer used picture w h label
         unfolding addOutcome firstOf firstElse settled
         no-room r = rw (p, s, l, r)
 
         pub add-done : noRoom (length buffer) (inUse buffer used) w h ≡ false →
-            answered 0 (grown (laid (added (inUse buffer used) w h picture) buffer) (lengthAfter (inUse buffer used) w h)) ≡ addOutcome buffer used picture w h
+            answered 0 (grown (laid (added (inUse buffer used) w h label picture) buffer) (lengthAfter (inUse buffer used) w h)) ≡ addOutcome buffer used picture w h label
         unfolding addOutcome firstOf firstElse settled
         add-done r = rw (p, s, l, r)
 
--- what check 10 leaves: the stretch lies within the buffer, and it is a plate
-pub record InPlate (buffer : List ℕ) (used : ℕ) : Type 0 where
+-- what check 10 leaves: the stretch lies within the buffer, it is a plate, and the unit is one of its version's
+pub record InPlate (buffer : List ℕ) (used unit : ℕ) : Type 0 where
   pub inside : used ≤ length buffer
   pub is-plate : isPlate (inUse buffer used) ≡ true
+  pub named : wrongUnit (version (inUse buffer used)) unit ≡ false
 
-pub in-plate : (buffer : List ℕ) (used : ℕ) → noPlate buffer used ≡ false → InPlate buffer used
+pub in-plate : (buffer : List ℕ) (used unit : ℕ) → noPlate buffer used unit ≡ false → InPlate buffer used unit
 unfolding noPlate
-in-plate buffer used e =
-    let n = neither (ltb (length buffer) used) (not (isPlate (inUse buffer used))) e in
-    record { inside = ltb-false (length buffer) used (n .0); is-plate = not-false (isPlate (inUse buffer used)) (n .1) }
+in-plate buffer used unit e =
+    let plate = isPlate (inUse buffer used) in
+    let wrong = wrongUnit (version (inUse buffer used)) unit in
+    let n = neither (ltb (length buffer) used) (not plate || wrong) e in
+    let m = neither (not plate) wrong (n .1) in
+    record { inside = ltb-false (length buffer) used (n .0); is-plate = not-false plate (m .0); named = m .1 }
 
 -- a call that answers 0 passed every check, and leaves the plate with one picture more
-pub record Accepted (buffer : List ℕ) (used : ℕ) (picture : List ℕ) (w h : ℕ) (left : Grown) : Type 0 where
-  pub adding : Adding buffer used w h picture
-  pub is : left ≡ grown (laid (added (inUse buffer used) w h picture) buffer) (lengthAfter (inUse buffer used) w h)
+pub record Accepted (buffer : List ℕ) (used : ℕ) (picture : List ℕ) (w h : ℕ) (label : Beside) (left : Grown) : Type 0 where
+  pub adding : Adding buffer used w h (label .unit) picture
+  pub is : left ≡ grown (laid (added (inUse buffer used) w h label picture) buffer) (lengthAfter (inUse buffer used) w h)
 
-pub add-accepted : (buffer : List ℕ) (used : ℕ) (picture : List ℕ) (w h : ℕ) (left : Grown) → answered 0 left ≡ addOutcome buffer used picture w h → Accepted buffer used picture w h left
+pub add-accepted : (buffer : List ℕ) (used : ℕ) (picture : List ℕ) (w h : ℕ) (label : Beside) (left : Grown) → answered 0 left ≡ addOutcome buffer used picture w h label → Accepted buffer used picture w h label left
 unfolding addOutcome
-add-accepted buffer used picture w h left e =
-    let t = read (firstOf (addChecks buffer used (length picture) w h)) (grown buffer 0) _ 0 left e in
-    let passes = each-passes (addChecks buffer used (length picture) w h) (omega arith, (omega arith, (omega arith, (omega arith, tt)))) .0 (t .number) in
-    let s = in-plate buffer used (passes .0) in
+add-accepted buffer used picture w h label left e =
+    let checks = addChecks buffer used (length picture) w h (label .unit) in
+    let t = read (firstOf checks) (grown buffer 0) _ 0 left e in
+    let passes = each-passes checks (omega arith, (omega arith, (omega arith, (omega arith, tt)))) .0 (t .number) in
+    let s = in-plate buffer used (label .unit) (passes .0) in
     record {
       adding = record {
         inside = s .inside;
         plate = s .is-plate;
+        named = s .named;
         sides = passes .1 .0;
         exact = right-length (length picture) w h .0 (passes .1 .1 .0);
         room = passes .1 .1 .1 .0;

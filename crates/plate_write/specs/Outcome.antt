@@ -7,7 +7,8 @@ use lib.ListN.{length, take}
 use Rattle.picture.specs.Answer.{Answer, answered, settled}
 use Rattle.picture.specs.Planes.{laid}
 use Rattle.picture.specs.Refusal.{Check, check, firstOf, pictureChecks}
-use Rattle.plate_format.specs.Format.{known, isPlate}
+use Rattle.plate_format.specs.Format.{version, known, wrongUnit, isPlate}
+use Rattle.plate.specs.Lookup.{Beside}
 use Rattle.plate_write.specs.Added.{emptyPlate, added, lengthAfter, noRoom}
 use Rattle.plate_write.specs.declared.StartRefusal.{StartRefusal}
 use Rattle.plate_write.specs.declared.StartRefusal.the-variants.{UnknownVersion, NoHeaderRoom}
@@ -38,22 +39,23 @@ startChecks room v = check 10 (not (known v)) ∷ check 13 (ltb room 4) ∷ []
 unfoldable pub startOutcome : List ℕ → ℕ → Answer Grown
 startOutcome buffer v = settled (firstOf (startChecks (length buffer) v)) (grown buffer 0) (grown (laid (emptyPlate v) buffer) 4)
 
--- 10: the length in use lies beyond the buffer, or that stretch is no plate
-unfoldable pub noPlate : List ℕ → ℕ → Bool
-noPlate buffer used = ltb (length buffer) used || not (isPlate (inUse buffer used))
+-- 10: the length in use lies beyond the buffer, that stretch is no plate, or the unit is none of its version's
+unfoldable pub noPlate : List ℕ → ℕ → ℕ → Bool
+noPlate buffer used unit =
+    ltb (length buffer) used || (not (isPlate (inUse buffer used)) || wrongUnit (version (inUse buffer used)) unit)
 
 -- adding a picture: 10, then 1 and 2, then 13
-abbrev pub addChecks : List ℕ → ℕ → ℕ → ℕ → ℕ → List Check
-addChecks buffer used len w h =
-    check 10 (noPlate buffer used) ∷ (pictureChecks len w h ++ (check 13 (noRoom (length buffer) (inUse buffer used) w h) ∷ []))
+abbrev pub addChecks : List ℕ → ℕ → ℕ → ℕ → ℕ → ℕ → List Check
+addChecks buffer used len w h unit =
+    check 10 (noPlate buffer used unit) ∷ (pictureChecks len w h ++ (check 13 (noRoom (length buffer) (inUse buffer used) w h) ∷ []))
 
 -- the first refusal, or the plate with one picture more; the bytes past its end stay
-unfoldable pub addOutcome : List ℕ → ℕ → List ℕ → ℕ → ℕ → Answer Grown
-addOutcome buffer used picture w h =
+unfoldable pub addOutcome : List ℕ → ℕ → List ℕ → ℕ → ℕ → Beside → Answer Grown
+addOutcome buffer used picture w h label =
     settled
-    (firstOf (addChecks buffer used (length picture) w h))
+    (firstOf (addChecks buffer used (length picture) w h (label .unit)))
     (grown buffer 0)
-    (grown (laid (added (inUse buffer used) w h picture) buffer) (lengthAfter (inUse buffer used) w h))
+    (grown (laid (added (inUse buffer used) w h label picture) buffer) (lengthAfter (inUse buffer used) w h))
 
 -- the number of each refusal
 abbrev pub startNumber : StartRefusal → ℕ

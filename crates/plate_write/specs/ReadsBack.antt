@@ -7,7 +7,8 @@ use lib.ListN.{length, take, drop}
 use Rattle.picture.specs.Answer.{Answer, answered}
 use Rattle.picture.specs.Planes.{bytesOf}
 use Rattle.plate_format.specs.Format.{version, count, entrySize, isPlate}
-use Rattle.plate.specs.Lookup.{Picture, lookedUp}
+use Rattle.plate.specs.Lookup.{Picture, lookedUp, Beside, beside, labelledUp}
+use Rattle.plate_write.specs.Added.{given}
 
 -- what a lookup answers, s bytes further on
 abbrev pub movedOn : ℕ → Answer Picture → Answer Picture
@@ -21,8 +22,8 @@ bytesAt file i = take (lookedUp file i .left .length) (drop (lookedUp file i .le
 abbrev pub newest : List ℕ → ℕ → ℕ → Picture
 newest old w h = record { width = w; height = h; offset = length old + entrySize (version old); length = bytesOf w h }
 
--- `new` is a plate of the same version with one picture more; each old picture is found one table entry further on with the same bytes, and after them the new one
-pub record ReadsBack (old new : List ℕ) (w h : ℕ) (picture : List ℕ) : Type 0 where
+-- `new` is a plate of the same version with one picture more; each old picture is found one table entry further on with the same bytes, unit and sheet, and after them the new one
+pub record ReadsBack (old new : List ℕ) (w h : ℕ) (label : Beside) (picture : List ℕ) : Type 0 where
   pub plate : isPlate new ≡ true
   pub same-version : version new ≡ version old
   pub one-more : count new ≡ count old + 1
@@ -30,3 +31,5 @@ pub record ReadsBack (old new : List ℕ) (w h : ℕ) (picture : List ℕ) : Typ
   pub old-bytes : (i : ℕ) → i < count old → bytesAt new i ≡ bytesAt old i
   pub new-found : lookedUp new (count old) ≡ answered 0 (newest old w h)
   pub new-bytes : bytesAt new (count old) ≡ picture
+  pub old-labels : (i : ℕ) → i < count old → labelledUp new i ≡ labelledUp old i
+  pub new-label : labelledUp new (count old) ≡ answered 0 (beside (given (version old) (label .unit)) (given (version old) (label .sheet)))

@@ -6,7 +6,7 @@ use Prim.Native.Nat.{ℕ, _+_, _<_, _≤_}
 use lib.ListN.{length, take, drop}
 use Rattle.picture.specs.Planes.{bytesOf, laid}
 use Rattle.picture.specs.Refusal.{wrongSides}
-use Rattle.plate_format.specs.Format.{version, count, entrySize, entryAt, entryOf, isPlate}
+use Rattle.plate_format.specs.Format.{version, count, entrySize, entryAt, entryOf, wrongUnit, isPlate}
 use Rattle.plate_format.specs.Needs.{Tabled}
 use Rattle.plate_format.specs.Written.{headerBytes, tableOf}
 use Rattle.plate_format.specs.declared.Entry.{Entry}
@@ -29,9 +29,10 @@ abbrev pub headAfter : List ℕ → Entry → List ℕ
 headAfter file new = headerBytes (version file) (count file + 1) ++ tableOf (version file) (entryAfter file new) (count file + 1)
 
 -- what the checks leave of a call that is not refused
-pub record Adding (buffer : List ℕ) (used w h : ℕ) (picture : List ℕ) : Type 0 where
+pub record Adding (buffer : List ℕ) (used w h unit : ℕ) (picture : List ℕ) : Type 0 where
   pub inside : used ≤ length buffer
   pub plate : isPlate (inUse buffer used) ≡ true
+  pub named : wrongUnit (version (inUse buffer used)) unit ≡ false
   pub sides : wrongSides w h ≡ false
   pub exact : length picture ≡ bytesOf w h
   pub room : noRoom (length buffer) (inUse buffer used) w h ≡ false

@@ -5,7 +5,7 @@ ghost use Prim.Native.Nat.{_+_, _≤_};
 ghost use lib.ListN.{length};
 ghost use Rattle.picture.specs.Planes.{laid};
 ghost use Rattle.plate_format.specs.Format.{entrySize};
-ghost use Rattle.plate_format.specs.Written.{bytes16, bytes32, headerBytes, entryBytes};
+ghost use Rattle.plate_format.specs.Written.{bytes16, bytes32, headerBytes, labelBytes, entryBytes};
 ghost use Rattle.plate_write.specs.Steps.{laidAt};
 
 // A number in two bytes, little-endian.
@@ -35,6 +35,17 @@ pub fn put_header(bytes: &mut [u8], v: u16, count: u16)
     put_u16(bytes, 2, count);
 }
 
+// A unit and a sheet, which version 1 does not have.
+fn put_label(bytes: &mut [u8], at: usize, v: u16, unit: u16, sheet: u16)
+    requires { ⌜ at + length (labelBytes v unit sheet) ≤ length (now bytes) ⌝ }
+    ensures { λ _. ⌜ now (bytes .exit) ≡ laidAt at (labelBytes v unit sheet) (now (bytes .entry)) ⌝ }
+{
+    if plate_format::labelled(v) {
+        put_u16(bytes, at, unit);
+        put_u16(bytes, at + 2, sheet);
+    }
+}
+
 // An entry of a table of this version.
 pub fn put_entry(bytes: &mut [u8], at: usize, v: u16, e: Entry)
     requires { ⌜ at + entrySize v ≤ length (now bytes) ⌝ }
@@ -44,4 +55,5 @@ pub fn put_entry(bytes: &mut [u8], at: usize, v: u16, e: Entry)
     put_u16(bytes, at + 2, e.height);
     put_u32(bytes, at + 4, e.offset);
     put_u32(bytes, at + 8, e.length);
+    put_label(bytes, at + 12, v, e.unit, e.sheet);
 }

@@ -15,8 +15,9 @@ ghost use Prim.Native.Nat.{_<_, _≤_};
 ghost use lib.ListN.{length};
 ghost use Rattle.picture.specs.Planes.{laid};
 ghost use Rattle.picture.specs.Refusal.{wrongSides};
-ghost use Rattle.plate_format.specs.Format.{isPlate, version, count, largestWhole};
-ghost use Rattle.plate_write.specs.Added.{newEntry, added, lengthAfter, noRoom};
+ghost use Rattle.plate_format.specs.Format.{version, labelled, wrongUnit, isPlate};
+ghost use Rattle.plate.specs.Lookup.{beside};
+ghost use Rattle.plate_write.specs.Added.{given, newEntry, added, lengthAfter, noRoom};
 ghost use Rattle.plate_write.specs.Outcome.{grown, inUse, noPlate, startNumber, starts, startOutcome, addNumber, adds, addOutcome};
 ghost use Rattle.plate_write.specs.Steps.{Adding};
 
@@ -86,28 +87,46 @@ pub fn plate_start(buffer: &mut [u8], version: u32) -> Started
     Started::Empty(plate_format::HEADER)
 }
 
-// Whether the length in use lies beyond the buffer, or that stretch is no plate.
-fn no_plate(buffer: &[u8], used: usize) -> bool
-    ensures { λ r. ⌜ r ≡ noPlate (now (buffer .entry)) used ⌝ }
+// Whether the length in use lies beyond the buffer, that stretch is no plate, or the unit is none of its version's.
+fn no_plate(buffer: &[u8], used: usize, unit: u32) -> bool
+    ensures { λ r. ⌜ r ≡ noPlate (now (buffer .entry)) used unit ⌝ }
 {
     if buffer.len() < used {
         return true;
     }
-    !plate_format::is_plate(&buffer[0..used])
+    if !plate_format::is_plate(&buffer[0..used]) {
+        return true;
+    }
+    plate_format::wrong_unit(plate_format::version(&buffer[0..used]), unit)
+}
+
+// A unit or a sheet that is given: version 1 ignores it.
+fn given(v: u16, n: u32) -> u16
+    requires { ⌜ (labelled v ≡ true → n < 65536) ⌝ }
+    ensures { λ r. ⌜ r ≡ given v n ⌝ }
+{
+    if plate_format::labelled(v) {
+        n as u16
+    } else {
+        0
+    }
 }
 
 // The entry of a picture of w by h pixels that is added to this plate.
-fn new_entry(plate: &[u8], w: u32, h: u32) -> Entry
-    requires { ⌜ (4 ≤ length (now plate)) × (wrongSides w h ≡ false) × (lengthAfter (now plate) w h < 4294967296) ⌝ }
-    ensures { λ r. ⌜ r ≡ newEntry (now (plate .entry)) w h ⌝ }
+fn new_entry(plate: &[u8], w: u32, h: u32, unit: u32, sheet: u16) -> Entry
+    requires { ⌜ (4 ≤ length (now plate)) × (wrongSides w h ≡ false) × (lengthAfter (now plate) w h < 4294967296) × (wrongUnit (version (now plate)) unit ≡ false) ⌝ }
+    ensures { λ r. ⌜ r ≡ newEntry (now (plate .entry)) w h (beside unit sheet) ⌝ }
 {
+    let v = plate_format::version(plate);
     let size = picture::full_size(w, h);
-    let start = plate.len() + plate_format::entry_size(plate_format::version(plate));
+    let start = plate.len() + plate_format::entry_size(v);
     Entry {
         width: w as u16,
         height: h as u16,
         offset: start as u32,
         length: size.bytes() as u32,
+        unit: given(v, unit),
+        sheet: given(v, sheet as u32),
     }
 }
 
@@ -128,11 +147,19 @@ fn no_room(room: usize, plate: &[u8], w: u32, h: u32) -> bool
 }
 
 // Adds the picture: the bodies move one table entry further, the table is written anew, and the picture comes last.
-fn append(buffer: &mut [u8], used: usize, picture: &[u8], w: u32, h: u32) -> usize
-    requires { ⌜ Adding (now buffer) used w h (now picture) ⌝ }
-    ensures { λ r. ⌜ grown (now (buffer .exit)) r ≡ grown (laid (added (inUse (now (buffer .entry)) used) w h (now (picture .entry))) (now (buffer .entry))) (lengthAfter (inUse (now (buffer .entry)) used) w h) ⌝ }
+fn append(
+    buffer: &mut [u8],
+    used: usize,
+    picture: &[u8],
+    w: u32,
+    h: u32,
+    unit: u32,
+    sheet: u16,
+) -> usize
+    requires { ⌜ Adding (now buffer) used w h unit (now picture) ⌝ }
+    ensures { λ r. ⌜ grown (now (buffer .exit)) r ≡ grown (laid (added (inUse (now (buffer .entry)) used) w h (beside unit sheet) (now (picture .entry))) (now (buffer .entry))) (lengthAfter (inUse (now (buffer .entry)) used) w h) ⌝ }
 {
-    let new = new_entry(&buffer[0..used], w, h);
+    let new = new_entry(&buffer[0..used], w, h, unit, sheet);
     let end = plate_format::table_end(&buffer[0..used]);
     let start = new.offset as usize;
     let whole = start + picture.len();
@@ -142,7 +169,7 @@ fn append(buffer: &mut [u8], used: usize, picture: &[u8], w: u32, h: u32) -> usi
     whole
 }
 
-// Adds a picture of w by h pixels to the plate that the first `used` bytes are; version 1 ignores its unit and sheet.
+// Adds a picture of w by h pixels, with its unit and sheet, to the plate that the first `used` bytes are; version 1 ignores both.
 pub fn plate_add(
     buffer: &mut [u8],
     used: usize,
@@ -152,9 +179,9 @@ pub fn plate_add(
     unit: u32,
     sheet: u16,
 ) -> Added
-    ensures { λ r. ⌜ adds r (now (buffer .exit)) ≡ addOutcome (now (buffer .entry)) used (now (picture .entry)) w h ⌝ }
+    ensures { λ r. ⌜ adds r (now (buffer .exit)) ≡ addOutcome (now (buffer .entry)) used (now (picture .entry)) w h (beside unit sheet) ⌝ }
 {
-    if no_plate(buffer, used) {
+    if no_plate(buffer, used, unit) {
         return Added::Refused(AddRefusal::BrokenPlate);
     }
     if picture::wrong_sides(w, h) {
@@ -166,5 +193,5 @@ pub fn plate_add(
     if no_room(buffer.len(), &buffer[0..used], w, h) {
         return Added::Refused(AddRefusal::NoRoom);
     }
-    Added::InUse(append(buffer, used, picture, w, h))
+    Added::InUse(append(buffer, used, picture, w, h, unit, sheet))
 }

@@ -24,6 +24,8 @@ fn shift_entry(bytes: &mut [u8], i: usize)
         height: e.height,
         offset: e.offset + plate_format::entry_size(v) as u32,
         length: e.length,
+        unit: e.unit,
+        sheet: e.sheet,
     };
     put_entry(bytes, at, v, further);
 }

@@ -1,12 +1,12 @@
 -- The test is the definition's.
-use mathlib.Core.Path.{refl}
-use Rattle.plate_format.specs.Format.{known}
+use borrow.Author.Needs.{needs}
+use Rattle.plate_format.specs.Format.{newest, known}
 use Rattle.plate_format.proofs.known.Statement.{statement}
 use Rattle.plate_format.proofs.known.Tie as tie
 
 returns : tie.Need-returns
-unfolding known
-returns c = refl
+unfolding known newest
+returns c = rw (c .zero-or-above .ensures)
 
 pub known-spec : {M : Type 1} → statement M
-known-spec = tie.close (tie.spec returns)
+known-spec = tie.close (tie.spec (λ c κs. search needs) returns)

@@ -7,6 +7,7 @@ use borrow.Author.Needs.{needs}
 use lib.ListN.{drop}
 use Rattle.plate_format.specs.Format.{version, entrySize, bodyOffset}
 use Rattle.plate_format.specs.declared.Entry.{Entry}
+use Rattle.plate.specs.Lookup.{beside}
 use Rattle.plate_write.specs.Added.{newEntry}
 use Rattle.plate_write.specs.Outcome.{grown, inUse}
 use Rattle.plate_write.specs.Steps.{laidAt}
@@ -18,7 +19,7 @@ new-entry-requires : tie.Need-new-entry-requires
 new-entry-requires c κs = rw (sub-zero (c .before .before .before .before .args .used)) (new-fits (c .before .before .before .before .pre))
 
 -- the new entry, where its body starts, and where the bodies start
-entry : (c : tie.After-new-entry) → let a = c .before .before .before .before .before .args in c .new-entry .result ≡ newEntry (inUse (a .buffer .now) (a .used)) (a .w) (a .h)
+entry : (c : tie.After-new-entry) → let a = c .before .before .before .before .before .args in c .new-entry .result ≡ newEntry (inUse (a .buffer .now) (a .used)) (a .w) (a .h) (beside (a .unit) (a .sheet))
 entry c = c .new-entry .ensures ∙ rw (sub-zero (c .before .before .before .before .before .args .used))
 
 start : (c : tie.After-new-entry) → let a = c .before .before .before .before .before .args in c .new-entry .result .offset ≡ a .used + entrySize (version (inUse (a .buffer .now) (a .used)))
@@ -69,8 +70,9 @@ part-copy-bytes-end c =
 returns : tie.Need-returns
 returns c =
     let r = c .before .before .before .before .before .before .before .before .before .before .before .before .before .before .before .before .before .before .before .before .before .pre in
+    let a = c .before .before .before .before .before .before .before .before .before .before .before .before .before .before .before .before .before .before .before .before .before .args in
     let s = start (c .before .before .before .before .before .before .before .before .before .before .before .before .before .before .before .before) in
-    ap₂ grown (appended r (opens (c .before .before .before .before .before .before .before .before .before .before)) s (rw (entry (c .before .before .before .before .before .before .before .before .before .before .before .before .before .before .before .before)) at (c .before .before .before .before .before .before .retable .ensures)) (rw (c .before .before .copy-bytes .ensures))) (length-is r s)
+    ap₂ grown (appended r (opens (c .before .before .before .before .before .before .before .before .before .before)) (beside (a .unit) (a .sheet)) s (rw (entry (c .before .before .before .before .before .before .before .before .before .before .before .before .before .before .before .before)) at (c .before .before .before .before .before .before .retable .ensures)) (rw (c .before .before .copy-bytes .ensures))) (length-is r s)
 
 pub append-spec : {M : Type 1} → statement M
 append-spec =

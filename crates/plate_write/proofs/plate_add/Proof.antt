@@ -15,26 +15,26 @@ use Rattle.plate_write.proofs.plate_add.Statement.{statement}
 use Rattle.plate_write.proofs.plate_add.Tie as tie
 
 returns : tie.Need-returns
-returns c = no-plate _ _ _ _ _ (sym (c .before .no-plate .ensures) ∙ c .if1 .taken)
+returns c = no-plate _ _ _ _ _ _ (sym (c .before .no-plate .ensures) ∙ c .if1 .taken)
 
 -- what each check that was passed leaves
-plate : (c : tie.Else1) → noPlate (c .before .before .before .before .before .args .buffer .now) (c .before .before .before .before .before .args .used) ≡ false
+plate : (c : tie.Else1) → noPlate (c .before .before .before .before .before .args .buffer .now) (c .before .before .before .before .before .args .used) (c .before .before .before .before .before .args .unit) ≡ false
 plate c = sym (c .before .no-plate .ensures) ∙ c .if1 .left
 
 returns-2 : tie.Need-returns-2
-returns-2 c = wrong-sides _ _ _ _ _ (plate (c .before .before)) (sym (c .before .wrong-sides .ensures) ∙ c .if2 .taken)
+returns-2 c = wrong-sides _ _ _ _ _ _ (plate (c .before .before)) (sym (c .before .wrong-sides .ensures) ∙ c .if2 .taken)
 
 sides : (c : tie.Else2) → wrongSides (c .before .before .before .before .before .before .before .args .w) (c .before .before .before .before .before .before .before .args .h) ≡ false
 sides c = sym (c .before .wrong-sides .ensures) ∙ c .if2 .left
 
 returns-3 : tie.Need-returns-3
-returns-3 c = wrong-length _ _ _ _ _ (plate (c .before .before .before .before)) (sides (c .before .before)) (sym (c .before .wrong-length .ensures) ∙ c .if3 .taken)
+returns-3 c = wrong-length _ _ _ _ _ _ (plate (c .before .before .before .before)) (sides (c .before .before)) (sym (c .before .wrong-length .ensures) ∙ c .if3 .taken)
 
 long : (c : tie.Else3) → wrongLength (length (c .before .before .before .before .before .before .before .before .before .args .picture .now)) (c .before .before .before .before .before .before .before .before .before .args .w) (c .before .before .before .before .before .before .before .before .before .args .h) ≡ false
 long c = sym (c .before .wrong-length .ensures) ∙ c .if3 .left
 
-stretch : (c : tie.Else1) → InPlate (c .before .before .before .before .before .args .buffer .now) (c .before .before .before .before .before .args .used)
-stretch c = in-plate _ _ (plate c)
+stretch : (c : tie.Else1) → InPlate (c .before .before .before .before .before .args .buffer .now) (c .before .before .before .before .before .args .used) (c .before .before .before .before .before .args .unit)
+stretch c = in-plate _ _ _ (plate c)
 
 part-no-room-end : tie.Need-part-no-room-end
 part-no-room-end c = let s = stretch (c .before .before .before .before .before) .inside in search needs
@@ -47,7 +47,7 @@ room : (c : tie.After-no-room) → let a = c .before .before .before .before .be
 room c = c .no-room .ensures ∙ rw (sub-zero (c .before .before .before .before .before .before .before .before .before .before .before .before .args .used))
 
 returns-4 : tie.Need-returns-4
-returns-4 c = no-room _ _ _ _ _ (plate (c .before .before .before .before .before .before .before .before)) (sides (c .before .before .before .before .before .before)) (long (c .before .before .before .before)) (sym (room (c .before)) ∙ c .if4 .taken)
+returns-4 c = no-room _ _ _ _ _ _ (plate (c .before .before .before .before .before .before .before .before)) (sides (c .before .before .before .before .before .before)) (long (c .before .before .before .before)) (sym (room (c .before)) ∙ c .if4 .taken)
 
 append-requires : tie.Need-append-requires
 append-requires c κs =
@@ -55,6 +55,7 @@ append-requires c κs =
     record {
       inside = s .inside;
       plate = s .is-plate;
+      named = s .named;
       sides = sides (c .before .before .before .before .before .before .before);
       exact = right-length _ _ _ .0 (long (c .before .before .before .before .before));
       room = sym (room (c .before .before)) ∙ c .before .if4 .left;
@@ -63,7 +64,7 @@ append-requires c κs =
 returns-5 : tie.Need-returns-5
 returns-5 c =
     ap (λ (g : Grown). answered 0 g) (c .before .before .append .ensures)
-    ∙ add-done _ _ _ _ _ (plate (c .before .before .before .before .before .before .before .before .before .before .before .before)) (sides (c .before .before .before .before .before .before .before .before .before .before)) (long (c .before .before .before .before .before .before .before .before)) (sym (room (c .before .before .before .before .before)) ∙ c .before .before .before .before .if4 .left)
+    ∙ add-done _ _ _ _ _ _ (plate (c .before .before .before .before .before .before .before .before .before .before .before .before)) (sides (c .before .before .before .before .before .before .before .before .before .before)) (long (c .before .before .before .before .before .before .before .before)) (sym (room (c .before .before .before .before .before)) ∙ c .before .before .before .before .if4 .left)
 
 pub plate-add-spec : {M : Type 1} → statement M
 plate-add-spec =

@@ -1,0 +1,12 @@
+-- The test is the definition's.
+use mathlib.Core.Path.{refl}
+use Rattle.plate_format.specs.Format.{labelled}
+use Rattle.plate_format.proofs.labelled.Statement.{statement}
+use Rattle.plate_format.proofs.labelled.Tie as tie
+
+returns : tie.Need-returns
+unfolding labelled
+returns c = refl
+
+pub labelled-spec : {M : Type 1} → statement M
+labelled-spec = tie.close (tie.spec returns)
