@@ -8,6 +8,7 @@ use denote.Triple.Clauses.{AtExit}
 use denote.Ref.{now}
 use Rattle.picture.specs.Answer.{answered, lent, lentCopy}
 use Rattle.drop_shadow.specs.Outcome as shadowing
+use Rattle.plate.specs.Lookup.{beside}
 use Rattle.plate_write.specs.Outcome.{grown}
 use Rattle.corbelrush.specs.Words.{pointers, pictureIn}
 use Rattle.corbelrush.proofs.filters.corbelrush_blur.Reads as blur
@@ -26,6 +27,8 @@ use Rattle.corbelrush.proofs.grades.corbelrush_spread.Reads as spread
 use Rattle.corbelrush.proofs.grades.corbelrush_spread.Kinds as spread-kinds
 use Rattle.corbelrush.proofs.plates.corbelrush_plate_picture.Reads as plate-picture
 use Rattle.corbelrush.proofs.plates.corbelrush_plate_picture.Kinds as plate-picture-kinds
+use Rattle.corbelrush.proofs.plates.corbelrush_plate_label.Reads as plate-label
+use Rattle.corbelrush.proofs.plates.corbelrush_plate_label.Kinds as plate-label-kinds
 use Rattle.corbelrush.proofs.plates.corbelrush_plate_job.Reads as plate-job
 use Rattle.corbelrush.proofs.plates.corbelrush_plate_job.Kinds as plate-job-kinds
 use Rattle.corbelrush.proofs.plates.corbelrush_plate_start.Reads as plate-start
@@ -61,6 +64,9 @@ spread-determined κs a r₁ r₂ x₁ x₂ h₁ h₂ = h₁ ∙ sym h₂
 
 pub plate-picture-determined : Determined plate-picture-kinds.ps plate-picture-kinds.r plate-picture.Post (λ κs r x. answered r (pictureIn (now (x .1 .1 .0)) (now (x .1 .1 .1 .0)) (now (x .1 .1 .1 .1 .0)) (now (x .1 .1 .1 .1 .1 .0))))
 plate-picture-determined κs a r₁ r₂ x₁ x₂ h₁ h₂ = h₁ ∙ sym h₂
+
+pub plate-label-determined : Determined plate-label-kinds.ps plate-label-kinds.r plate-label.Post (λ κs r x. answered r (beside (now (x .1 .1 .0)) (now (x .1 .1 .1 .0))))
+plate-label-determined κs a r₁ r₂ x₁ x₂ h₁ h₂ = h₁ ∙ sym h₂
 
 pub plate-job-determined : Determined plate-job-kinds.ps plate-job-kinds.r plate-job.Post (λ κs r x. answered r (lent (now (x .0)) (now (x .1 .0))))
 plate-job-determined κs a r₁ r₂ x₁ x₂ h₁ h₂ = h₁ ∙ sym h₂

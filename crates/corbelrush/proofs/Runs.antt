@@ -17,7 +17,7 @@ use Rattle.drop_shadow.specs.declared.Recipe.{Recipe}
 use Rattle.grading.specs.Premultiplied.{checked}
 use Rattle.grading.specs.Sampling.{viewRefusal, sampled}
 use Rattle.spread.specs.Spread.{reported}
-use Rattle.plate.specs.Lookup.{Picture, lookedUp}
+use Rattle.plate.specs.Lookup.{Picture, lookedUp, Beside, beside, labelledUp}
 use Rattle.plate_write.specs.Outcome.{Grown, grown, startOutcome, addOutcome}
 use Rattle.job.specs.Job as job
 use Rattle.corbelrush.specs.Words.{recipe, flag, reworded, Pointers, pointers, findingIn, pictureIn}
@@ -38,6 +38,8 @@ use Rattle.corbelrush.proofs.grades.corbelrush_spread.Reads as spread
 use Rattle.corbelrush.proofs.grades.corbelrush_spread.Kinds as spread-kinds
 use Rattle.corbelrush.proofs.plates.corbelrush_plate_picture.Reads as plate-picture
 use Rattle.corbelrush.proofs.plates.corbelrush_plate_picture.Kinds as plate-picture-kinds
+use Rattle.corbelrush.proofs.plates.corbelrush_plate_label.Reads as plate-label
+use Rattle.corbelrush.proofs.plates.corbelrush_plate_label.Kinds as plate-label-kinds
 use Rattle.corbelrush.proofs.plates.corbelrush_plate_job.Reads as plate-job
 use Rattle.corbelrush.proofs.plates.corbelrush_plate_job.Kinds as plate-job-kinds
 use Rattle.corbelrush.proofs.plates.corbelrush_plate_start.Reads as plate-start
@@ -231,6 +233,24 @@ plate-picture-met =
       meets = λ κs a. refl;
     }
 
+-- ---- label of a picture of a plate
+abbrev labelLeaves : LookupGiven → Answer Beside
+labelLeaves g = labelledUp (g .0) (g .1)
+
+abbrev labelGiven : (κs : Lfts 3) → Dens κs plate-label-kinds.ps → LookupGiven
+labelGiven κs a = (now (a .0), a .1 .0)
+
+pub plate-label-runs : SameRuns plate-label-kinds.ps plate-label-kinds.r plate-label.Post labelGiven (λ κs r x. answered r (beside (now (x .1 .1 .0)) (now (x .1 .1 .1 .0))))
+plate-label-runs = same-runs plate-label-kinds.ps plate-label-kinds.r plate-label.Post labelGiven _ labelLeaves (λ κs a v x h. h)
+
+pub plate-label-met : CanBeMet plate-label-kinds.ps plate-label-kinds.r plate-label.Post
+plate-label-met =
+    record {
+      number = λ κs a. labelLeaves (labelGiven κs a) .number;
+      left = λ κs a. let l = labelLeaves (labelGiven κs a) .left in (tt, (tt, (l .unit, (l .sheet, tt))));
+      meets = λ κs a. refl;
+    }
+
 -- ---- plate job
 abbrev JobGiven : Type 0
 JobGiven = List ℕ × List ℕ
@@ -275,13 +295,13 @@ plate-start-met =
 
 -- ---- adding a picture to a plate
 abbrev AddGiven : Type 0
-AddGiven = List ℕ × ℕ × List ℕ × ℕ × ℕ
+AddGiven = List ℕ × ℕ × List ℕ × ℕ × ℕ × ℕ × ℕ
 
 abbrev addGiven : (κs : Lfts 3) → Dens κs plate-add-kinds.ps → AddGiven
-addGiven κs a = (now (a .0), a .1 .0, now (a .1 .1 .0), a .1 .1 .1 .0, a .1 .1 .1 .1 .0)
+addGiven κs a = (now (a .0), a .1 .0, now (a .1 .1 .0), a .1 .1 .1 .0, a .1 .1 .1 .1 .0, a .1 .1 .1 .1 .1 .0, a .1 .1 .1 .1 .1 .1 .0)
 
 abbrev addLeaves : AddGiven → Answer Grown
-addLeaves g = addOutcome (g .0) (g .1) (g .2) (g .3) (g .4)
+addLeaves g = addOutcome (g .0) (g .1) (g .2) (g .3) (g .4) (beside (g .5) (g .6))
 
 pub plate-add-runs : SameRuns plate-add-kinds.ps plate-add-kinds.r plate-add.Post addGiven (λ κs r x. answered r (grown (now (x .0)) (now (x .1 .1 .1 .1 .1 .1 .1 .0))))
 plate-add-runs = same-runs plate-add-kinds.ps plate-add-kinds.r plate-add.Post addGiven _ addLeaves (λ κs a v x h. h)

@@ -1,10 +1,11 @@
 // The plate file for C.
+use plate::Labelling;
 use plate::Lookup;
 use plate_write::Added;
 use plate_write::Started;
 ghost use mathlib.Core.Path.{_≡_};
 ghost use Rattle.picture.specs.Answer.{answered, lent};
-ghost use Rattle.plate.specs.Lookup.{lookedUp};
+ghost use Rattle.plate.specs.Lookup.{lookedUp, beside, labelledUp};
 ghost use Rattle.plate_write.specs.Outcome.{grown, startOutcome, addOutcome};
 ghost use Rattle.job.specs.Job.{plateBlur, jobOutcome};
 ghost use Rattle.corbelrush.specs.Words.{pictureIn};
@@ -33,6 +34,28 @@ pub extern "C" fn corbelrush_plate_picture(
             *h = size.height() as u32;
             *offset = stretch.offset as u64;
             *length = stretch.length as u64;
+            0
+        }
+    }
+}
+
+// The unit and the sheet of the picture of that index, as `find_label` does.
+#[no_mangle]
+pub extern "C" fn corbelrush_plate_label(
+    plate: &[u8],
+    index: u32,
+    unit: &mut u32,
+    sheet: &mut u16,
+) -> u32
+    ensures { λ r. ⌜ answered r (beside (now (unit .exit)) (now (sheet .exit))) ≡ labelledUp (now (plate .entry)) index ⌝ }
+{
+    *unit = 0;
+    *sheet = 0;
+    match plate::find_label(plate, index) {
+        Labelling::NoLabel(r) => r.number(),
+        Labelling::Named { unit: u, sheet: s } => {
+            *unit = u.number();
+            *sheet = s;
             0
         }
     }
@@ -73,7 +96,7 @@ pub extern "C" fn corbelrush_plate_add(
     sheet: u16,
     after: &mut u64,
 ) -> u32
-    ensures { λ r. ⌜ answered r (grown (now (buffer .exit)) (now (after .exit))) ≡ addOutcome (now (buffer .entry)) used (now (picture .entry)) w h ⌝ }
+    ensures { λ r. ⌜ answered r (grown (now (buffer .exit)) (now (after .exit))) ≡ addOutcome (now (buffer .entry)) used (now (picture .entry)) w h (beside unit sheet) ⌝ }
 {
     *after = 0;
     match plate_write::plate_add(buffer, used as usize, picture, w, h, unit, sheet) {
