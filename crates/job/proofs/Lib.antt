@@ -2,6 +2,7 @@
 pub mod Lengths
 pub mod Settle
 pub mod Determined
+pub mod Labels
 pub mod Cleared
 pub mod After
 pub mod Turns

@@ -7,3 +7,5 @@ pub mod Appended
 pub mod Back
 pub mod Empty
 pub mod ReadsBack
+pub mod Ignored
+pub mod Determined
