@@ -15,9 +15,10 @@ pub enum Entry {
     PlateJob,
     PlateStart,
     PlateAdd,
+    PlateLabel,
 }
 
-pub const ENTRIES: [Entry; 11] = [
+pub const ENTRIES: [Entry; 12] = [
     Entry::Blur,
     Entry::Shift,
     Entry::Shadow,
@@ -29,6 +30,7 @@ pub const ENTRIES: [Entry; 11] = [
     Entry::PlateJob,
     Entry::PlateStart,
     Entry::PlateAdd,
+    Entry::PlateLabel,
 ];
 
 /// The entries of the first release.
@@ -128,7 +130,8 @@ impl Case {
     }
 
     pub fn is_plate(&self) -> bool {
-        matches!(self.entry, Entry::PlatePicture | Entry::PlateJob | Entry::PlateStart | Entry::PlateAdd)
+        let reads = matches!(self.entry, Entry::PlatePicture | Entry::PlateJob | Entry::PlateLabel);
+        reads || matches!(self.entry, Entry::PlateStart | Entry::PlateAdd)
     }
 
     /// The lent bytes of a picture of w by h.
@@ -247,7 +250,7 @@ pub unsafe fn call(library: &Library, case: &Case, parts: Parts) -> (u32, [u64; 
     let (Part { at: c, length: c_len }, Part { at: o, length: o_len }) = (parts.copy, parts.other);
     let [red, green, blue, alpha] = case.colour;
     let (k, k_len) = (case.weights.as_ptr(), case.weights.len());
-    let ([mut wide, mut high], [mut far, mut long]) = ([UNSET as u32; 2], [UNSET; 2]);
+    let ([mut wide, mut high], [mut far, mut long], mut page) = ([UNSET as u32; 2], [UNSET; 2], UNSET as u16);
     let answer = match case.entry {
         Entry::Blur => (library.blur)(p, p_len, w, h, s, s_len, k, k_len, n, strength, edge),
         Entry::Shift => (library.shift)(p, p_len, w, h, dx, dy),
@@ -265,11 +268,13 @@ pub unsafe fn call(library: &Library, case: &Case, parts: Parts) -> (u32, [u64; 
         Entry::PlateJob => (library.plate_job)(p, p_len, s, s_len),
         Entry::PlateStart => (library.plate_start)(p, p_len, unit, &mut far),
         Entry::PlateAdd => (library.plate_add)(p, p_len, used, o, o_len, w, h, unit, sheet, &mut far),
+        Entry::PlateLabel => (library.plate_label)(p, p_len, x as u32, &mut wide, &mut page),
     };
     let numbers = match case.entry {
         Entry::Check => [wide.into(), far, 0, 0],
         Entry::Spread | Entry::PlateStart | Entry::PlateAdd => [far, 0, 0, 0],
         Entry::PlatePicture => [wide.into(), high.into(), far, long],
+        Entry::PlateLabel => [wide.into(), page.into(), 0, 0],
         _ => [0; 4],
     };
     (answer, numbers)
@@ -295,7 +300,7 @@ impl fmt::Display for Case {
             Entry::Shadow => write!(f, " colour {:?} composite {}", self.colour, self.composite)?,
             Entry::Sample => write!(f, " edge {} x {} y {}", self.edge, self.x, self.y)?,
             Entry::View => write!(f, " edge {}", self.edge)?,
-            Entry::PlatePicture => write!(f, " index {}", self.x as u32)?,
+            Entry::PlatePicture | Entry::PlateLabel => write!(f, " index {}", self.x as u32)?,
             Entry::PlateStart => write!(f, " version {}", self.unit)?,
             Entry::PlateAdd => write!(f, " used {} unit {} sheet {}", self.used, self.unit, self.sheet)?,
             _ => (),

@@ -220,6 +220,7 @@ pub fn numbers(entry: Entry) -> &'static [u32] {
         Entry::PlateJob => &[3, 10],
         Entry::PlateStart => &[10, 13],
         Entry::PlateAdd => &[10, 1, 2, 13],
+        Entry::PlateLabel => &[10, 12],
     }
 }
 
@@ -278,7 +279,8 @@ fn bad_plate(random: &mut Random, case: &mut Case) {
     match case.entry {
         Entry::PlateStart => case.unit = random.pick(&plate_cases::VERSIONS),
         Entry::PlateAdd => plate_cases::spoil_plate(random, case),
-        _ => case.picture = inputs::bad_plate(random),
+        Entry::PlateLabel => plate_cases::spoil_table(random, case),
+        _ => case.picture = inputs::bad_plate(random, 1),
     }
 }
 
@@ -302,7 +304,7 @@ fn spoil(random: &mut Random, case: &mut Case, number: u32) {
 
 /// A case of an entry that is accepted.
 pub fn accepted(random: &mut Random, entry: Entry) -> Case {
-    if matches!(entry, Entry::PlateStart | Entry::PlateAdd) {
+    if matches!(entry, Entry::PlateStart | Entry::PlateAdd | Entry::PlateLabel) {
         return plate_cases::accepted(random, entry);
     }
     let (w, h) = (random.range(1, 6) as u32, random.range(1, 6) as u32);
@@ -313,7 +315,7 @@ pub fn accepted(random: &mut Random, entry: Entry) -> Case {
     match entry {
         Entry::Spread => case.weights = inputs::on_grid(&inputs::numerators(random, taps, 65536)),
         Entry::PlatePicture | Entry::PlateJob => {
-            let plate = inputs::plate(random);
+            let plate = inputs::plate(random, 1);
             let count = i64::from(plate[2]);
             let x = random.range(0, (count - 1).max(0)) as i32;
             return Case { x, scratch: longer(random, plate.len()), ..Case::new(entry, 0, 0, plate) };

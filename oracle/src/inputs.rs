@@ -1,5 +1,6 @@
 //! Pictures, kernels, offsets and plates to build cases from.
 use crate::random::Random;
+use rule::plate::{entry_size, HEAD};
 use rule::plate_write::{file, Scan};
 
 /// Offsets at and past every limit that the shift's arithmetic has.
@@ -151,7 +152,7 @@ pub fn component(random: &mut Random) -> f32 {
 }
 
 /// A plate of random pictures that keeps every rule.
-pub fn plate(random: &mut Random) -> Vec<u8> {
+pub fn plate(random: &mut Random, version: u16) -> Vec<u8> {
     let count = random.pick(&[0, 1, 1, 2, 3, 5, 64]);
     let side = random.pick(&[1, 3, 6]);
     let long = random.one_in(20);
@@ -159,19 +160,22 @@ pub fn plate(random: &mut Random) -> Vec<u8> {
         .map(|_| (random.range(1, side) as u32, random.range(1, side) as u32))
         .map(|(w, h)| if long && count == 1 { (w, 4084 / (4 * w)) } else { (w, h) })
         .collect();
-    plate_of(random, &sides)
+    plate_of(random, version, &sides)
 }
 
-/// A plate of random pictures of these sides.
-pub fn plate_of(random: &mut Random, sides: &[(u32, u32)]) -> Vec<u8> {
-    let scan = |(w, h): &(u32, u32)| Scan { w: *w, h: *h, body: picture(random, *w, *h) };
-    file(1, &sides.iter().map(scan).collect::<Vec<_>>())
+/// A plate of random pictures of these sides, labelled from version 2 on.
+pub fn plate_of(random: &mut Random, version: u16, sides: &[(u32, u32)]) -> Vec<u8> {
+    let scan = |(w, h): &(u32, u32)| {
+        let (unit, sheet) = if version == 1 { (0, 0) } else { (random.pick(&[1, 2]), random.next() as u16) };
+        Scan { w: *w, h: *h, unit, sheet, body: picture(random, *w, *h) }
+    };
+    file(version, &sides.iter().map(scan).collect::<Vec<_>>())
 }
 
 /// A plate with one thing wrong, most times.
-pub fn bad_plate(random: &mut Random) -> Vec<u8> {
-    let mut bytes = plate(random);
-    let table = 4 + 12 * usize::from(bytes[2]);
+pub fn bad_plate(random: &mut Random, version: u16) -> Vec<u8> {
+    let mut bytes = plate(random, version);
+    let table = HEAD + entry_size(version.into()) * usize::from(bytes[2]);
     match random.below(6) {
         0 => bytes.push(random.byte()),
         1 => bytes.truncate(random.below(bytes.len() as u64) as usize),

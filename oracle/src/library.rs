@@ -15,6 +15,7 @@ pub struct Library {
     pub plate_job: PlateJob,
     pub plate_start: PlateStart,
     pub plate_add: PlateAdd,
+    pub plate_label: PlateLabel,
 }
 
 /// The types of the C functions, and the library's own ones where it is linked.
@@ -57,6 +58,9 @@ functions! {
         buffer: *mut u8, buffer_len: usize, used: u64, picture: *const u8, picture_len: usize, w: u32, h: u32,
         unit: u32, sheet: u16, new_used: *mut u64
     );
+    PlateLabel corbelrush_plate_label(
+        plate: *const u8, plate_len: usize, index: u32, unit: *mut u32, sheet: *mut u16
+    );
 }
 
 /// The library under test: the linked one, else the rules.
@@ -81,6 +85,7 @@ static LINKED: Library = Library {
     plate_job: corbelrush_plate_job,
     plate_start: corbelrush_plate_start,
     plate_add: corbelrush_plate_add,
+    plate_label: corbelrush_plate_label,
 };
 
 pub static RULE: Library = Library {
@@ -96,6 +101,7 @@ pub static RULE: Library = Library {
     plate_job: rule_plate_job,
     plate_start: rule_plate_start,
     plate_add: rule_plate_add,
+    plate_label: rule_plate_label,
 };
 
 // SAFETY of all below: the caller lends each buffer for the call, with its length, and no two overlap.
@@ -248,5 +254,17 @@ unsafe extern "C" fn rule_plate_add(
     let (buffer, picture) = (written(buffer, buffer_len), read(picture, picture_len));
     let (number, length) = plate_write::add(buffer, used, picture, w, h, unit, sheet);
     *new_used = length;
+    number
+}
+
+unsafe extern "C" fn rule_plate_label(
+    plate: *const u8,
+    plate_len: usize,
+    index: u32,
+    unit: *mut u32,
+    sheet: *mut u16,
+) -> u32 {
+    let number;
+    (number, *unit, *sheet) = plate::label(read(plate, plate_len), index);
     number
 }

@@ -1,8 +1,9 @@
-//! Cases of the functions that write plates.
+//! Cases of the functions that write plates, and of those that read plates of every version.
 use crate::case::{Case, Entry};
 use crate::inputs;
 use crate::random::Random;
-use rule::plate::{ENTRY, HEAD, LONGEST};
+use rule::plate::{entry_size, HEAD, LONGEST, NEWEST};
+use rule::plate_write::version;
 
 /// Versions, known and not, and some that 16 or 8 bits would take for a known one.
 pub const VERSIONS: [u32; 12] = [0, 1, 2, 3, 4, 255, 257, 65535, 65536, 65537, 65538, u32::MAX];
@@ -10,6 +11,15 @@ pub const UNITS: [u32; 9] = [0, 1, 2, 3, 257, 65535, 65537, 65538, u32::MAX];
 pub const SHEETS: [u16; 6] = [0, 1, 2, 255, 256, 65535];
 /// How much longer the buffer is than the new plate needs.
 const ROOMS: [i64; 8] = [-12, -5, -4, -1, 0, 1, 4, 64];
+
+/// The bytes of a plate's table entry.
+fn entry_of(plate: &[u8]) -> usize {
+    entry_size(version(plate).into())
+}
+
+fn any_version(random: &mut Random) -> u16 {
+    random.range(1, NEWEST as i64) as u16
+}
 
 fn random_bytes(random: &mut Random, length: usize) -> Vec<u8> {
     (0..length).map(|_| random.byte()).collect()
@@ -22,7 +32,7 @@ pub fn start(random: &mut Random, version: u32, length: usize) -> Case {
 /// A plate in a buffer with `room` bytes more than it needs for a picture of w by h, which is added.
 pub fn add(random: &mut Random, plate: Vec<u8>, w: u32, h: u32, room: i64) -> Case {
     let (used, other) = (plate.len(), inputs::picture(random, w, h));
-    let length = (used + ENTRY + other.len()) as i64 + room;
+    let length = (used + entry_of(&plate) + other.len()) as i64 + room;
     let mut buffer = plate;
     buffer.extend(random_bytes(random, (length as usize).saturating_sub(used)));
     let (unit, sheet) = (random.pick(&[1, 2]), random.pick(&SHEETS));
@@ -33,16 +43,32 @@ fn side(random: &mut Random) -> u32 {
     random.range(1, 4) as u32
 }
 
-/// Equal pictures, none larger than 3 by 3.
+/// Equal pictures, none larger than 3 by 3, in any version.
 pub fn small_plate(random: &mut Random, count: usize) -> Vec<u8> {
     let sides = (random.range(1, 3) as u32, random.range(1, 3) as u32);
-    inputs::plate_of(random, &vec![sides; count])
+    let version = any_version(random);
+    inputs::plate_of(random, version, &vec![sides; count])
+}
+
+/// A function that reads a plate.
+fn reading(random: &mut Random, entry: Entry, plate: Vec<u8>) -> Case {
+    let count = u64::from(*plate.get(2).unwrap_or(&0));
+    match entry {
+        Entry::PlateJob => Case { scratch: plate.len(), ..Case::plain(entry, plate) },
+        _ => Case { x: random.below(count + 1) as i32, ..Case::plain(entry, plate) },
+    }
 }
 
 pub fn accepted(random: &mut Random, entry: Entry) -> Case {
     if entry == Entry::PlateStart {
-        let length = random.range(4, 40) as usize;
-        return start(random, 1, length);
+        let (version, length) = (any_version(random), random.range(4, 40) as usize);
+        return start(random, version.into(), length);
+    }
+    if entry == Entry::PlateLabel {
+        let version = any_version(random);
+        let plate = inputs::plate(random, version);
+        let last = (i64::from(plate[2]) - 1).max(0);
+        return Case { x: random.range(0, last) as i32, ..Case::plain(entry, plate) };
     }
     let count = random.pick(&[0, 1, 1, 2, 3, 5, 20, 63]);
     let (w, h, room) = (side(random), side(random), random.pick(&[0, 1, 4, 64]));
@@ -53,19 +79,29 @@ pub fn accepted(random: &mut Random, entry: Entry) -> Case {
 /// Makes a plate, or its length in use, wrong.
 pub fn spoil_plate(random: &mut Random, case: &mut Case) {
     let length = case.picture.len() as u64;
-    match random.below(4) {
+    match random.below(5) {
         0 => case.used = random.pick(&[length + 1, (1 << 32) + case.used, 1 << 63, u64::MAX]),
         1 => case.used = random.pick(&[0, 1, 2, 3, case.used.saturating_sub(1), case.used + 1]),
         2 => {
             let at = random.below(HEAD as u64) as usize;
             spoil_byte(random, &mut case.picture, at);
         }
-        _ => {
-            let table = HEAD + ENTRY * usize::from(*case.picture.get(2).unwrap_or(&0));
-            let at = random.below(table as u64) as usize;
-            spoil_byte(random, &mut case.picture, at);
-        }
+        3 => case.unit = random.pick(&UNITS),
+        _ => spoil_entry(random, &mut case.picture),
     }
+}
+
+/// A byte of the table changed.
+fn spoil_entry(random: &mut Random, plate: &mut [u8]) {
+    let table = HEAD + entry_of(plate) * usize::from(*plate.get(2).unwrap_or(&0));
+    let at = random.below(table as u64) as usize;
+    spoil_byte(random, plate, at);
+}
+
+/// Makes a plate that is read a wrong one.
+pub fn spoil_table(random: &mut Random, case: &mut Case) {
+    let version = any_version(random);
+    case.picture = inputs::bad_plate(random, version);
 }
 
 fn spoil_byte(random: &mut Random, bytes: &mut [u8], at: usize) {
@@ -80,7 +116,7 @@ pub fn spoil_room(random: &mut Random, case: &mut Case) {
         case.picture.truncate(random.below(HEAD as u64) as usize);
         return;
     }
-    let whole = case.used as u128 + ENTRY as u128 + rule::refusal::bytes(case.w, case.h);
+    let whole = case.used as u128 + entry_of(&case.picture) as u128 + rule::refusal::bytes(case.w, case.h);
     match random.below(3) {
         0 => case.picture.truncate(case.used.min(1 << 20) as usize),
         1 => case.picture.truncate((whole - 1).min(1 << 20) as usize),
@@ -118,9 +154,11 @@ fn lengths(random: &mut Random, take: &mut dyn FnMut(Case)) {
         for room in ROOMS.into_iter().chain([4000]) {
             let count = random.pick(&[0, 1, 3]);
             let plate = small_plate(random, count);
-            let pixels = (whole - plate.len() - ENTRY) / 4;
+            let pixels = (whole - plate.len() - entry_of(&plate)) / 4;
             take(add(random, plate, 1, pixels as u32, room));
-            let plate = inputs::plate_of(random, &[(1, (whole - HEAD - 2 * ENTRY - 4) as u32 / 4)]);
+            let version = any_version(random);
+            let pixels = (whole - HEAD - 2 * entry_size(version.into()) - 4) / 4;
+            let plate = inputs::plate_of(random, version, &[(1, pixels as u32)]);
             take(add(random, plate, 1, 1, room));
         }
     }
@@ -146,8 +184,8 @@ fn used(random: &mut Random, take: &mut dyn FnMut(Case)) {
 
 /// Buffers of a few bytes, which hold an empty plate or a part of one.
 fn short_buffers(random: &mut Random, take: &mut dyn FnMut(Case)) {
-    for length in 0..26 {
-        let plate = inputs::plate_of(random, &[]);
+    for (version, length) in (1..=NEWEST as u16).flat_map(|version| (0..26).map(move |length| (version, length))) {
+        let plate = inputs::plate_of(random, version, &[]);
         let case = add(random, plate, 1, 1, 10);
         for used in [0, 1, 3, 4, 5, length, length + 1] {
             let picture = case.picture[..length as usize].to_vec();
@@ -177,20 +215,55 @@ fn sides(random: &mut Random, take: &mut dyn FnMut(Case)) {
     }
 }
 
-/// Every unit and sheet beside a picture that is added.
+/// Every unit and sheet beside a picture that is added to a plate of every version, also where 1, 2 or 13 holds too.
 fn labels(random: &mut Random, take: &mut dyn FnMut(Case)) {
-    for unit in UNITS {
-        for sheet in SHEETS {
-            let plate = small_plate(random, 2);
-            let case = add(random, plate, 1, 1, 20);
-            take(Case { unit, sheet, ..case });
+    for version in 1..=NEWEST as u16 {
+        let plate = inputs::plate_of(random, version, &[(1, 1), (2, 3)]);
+        let case = add(random, plate, 1, 1, 20);
+        for unit in UNITS {
+            for sheet in SHEETS {
+                take(Case { unit, sheet, ..case.clone() });
+            }
+            take(Case { unit, w: 0, ..case.clone() });
+            take(Case { unit, h: 3, ..case.clone() });
+            take(Case { unit, picture: case.picture[..case.used as usize].to_vec(), ..case.clone() });
+        }
+    }
+}
+
+const READERS: [Entry; 3] = [Entry::PlatePicture, Entry::PlateJob, Entry::PlateLabel];
+
+/// Plates of every version to be read, right and wrong.
+fn readings(random: &mut Random, take: &mut dyn FnMut(Case)) {
+    for i in 0..600 {
+        let (entry, version) = (READERS[i % 3], any_version(random));
+        let plate = if i % 6 < 3 { inputs::plate(random, version) } else { inputs::bad_plate(random, version) };
+        take(reading(random, entry, plate));
+    }
+}
+
+/// Every unit in every entry of a plate; each version's table under another version; every version with no picture.
+fn wrong_labels(random: &mut Random, take: &mut dyn FnMut(Case)) {
+    let (head, entry) = (HEAD, entry_size(2));
+    for reader in READERS {
+        for (i, unit) in UNITS.iter().flat_map(|unit| [0, 1, 2].map(|i| (i, *unit as u16))) {
+            let mut plate = inputs::plate_of(random, 2, &[(1, 1), (2, 1), (1, 2)]);
+            plate[head + entry * i + 12..head + entry * i + 14].copy_from_slice(&unit.to_le_bytes());
+            take(reading(random, reader, plate));
+        }
+        for (own, named) in (1..=3).flat_map(|own| VERSIONS.map(|named| (own, named as u16))) {
+            for count in [0, 1, 2] {
+                let mut plate = inputs::plate_of(random, own, &vec![(2, 2); count]);
+                plate[..2].copy_from_slice(&named.to_le_bytes());
+                take(reading(random, reader, plate));
+            }
         }
     }
 }
 
 /// All groups.
 pub fn all(random: &mut Random, take: &mut dyn FnMut(Case)) {
-    for group in [starts, counts, lengths, used, short_buffers, sides, labels] {
+    for group in [starts, counts, lengths, used, short_buffers, sides, labels, readings, wrong_labels] {
         group(random, take);
     }
 }
@@ -217,5 +290,29 @@ pub fn stored(random: &mut Random) -> Vec<Case> {
     let full = Case { picture: case.picture[..own as usize].to_vec(), ..case.clone() };
     cases.extend([Case { h: 3, ..full.clone() }, Case { w: 0, ..full.clone() }, Case { w: 0, used: own + 1, ..full }]);
     cases.push(Case { unit: 65537, sheet: 65535, ..case });
+    cases.extend(stored_labels(random));
+    cases
+}
+
+/// Small plates of every version to be read, and pictures added with every unit.
+fn stored_labels(random: &mut Random) -> Vec<Case> {
+    let mut cases = Vec::new();
+    for version in 1..=NEWEST as u16 {
+        let plate = inputs::plate_of(random, version, &[(1, 1), (2, 1)]);
+        for reader in [Entry::PlatePicture, Entry::PlateLabel] {
+            cases.extend([0, 1, 2, -1].map(|x| Case { x, ..Case::plain(reader, plate.clone()) }));
+        }
+        cases.push(reading(random, Entry::PlateJob, plate.clone()));
+        let case = add(random, plate, 1, 1, 6);
+        cases.extend(UNITS.map(|unit| Case { unit, sheet: 258, ..case.clone() }));
+        cases.push(Case { unit: 0, w: 0, ..case });
+    }
+    for (version, at, byte) in
+        [(2, 32, 0), (2, 32, 3), (2, 33, 1), (2, 16, 4), (2, 0, 1), (1, 0, 2), (2, 0, 3), (1, 1, 1)]
+    {
+        let mut plate = inputs::plate_of(random, version, &[(1, 1), (2, 1)]);
+        plate[at] = byte;
+        cases.extend(READERS.map(|reader| reading(random, reader, plate.clone())));
+    }
     cases
 }

@@ -1,5 +1,5 @@
-//! Writing plates (request 01): an empty plate, and a plate with one picture more, each made anew as a whole file.
-use crate::plate::{self, known, Picture, ENTRY, HEAD, LONGEST, MOST_PICTURES};
+//! Writing plates (requests 01 and 05): an empty plate, and a plate with one picture more, each made anew as a whole file.
+use crate::plate::{self, entry_size, known, wrong_unit, Picture, HEAD, LONGEST, MOST_PICTURES};
 use crate::refusal::{self, first};
 
 /// A picture as a plate holds it.
@@ -7,23 +7,29 @@ use crate::refusal::{self, first};
 pub struct Scan {
     pub w: u32,
     pub h: u32,
+    pub unit: u32,
+    pub sheet: u16,
     pub body: Vec<u8>,
 }
 
 /// The scans of a plate, in table order.
 pub fn scans(plate: &[u8]) -> Option<Vec<Scan>> {
     let body = |p: &Picture| plate[p.offset as usize..(p.offset + p.length) as usize].to_vec();
-    Some(plate::pictures(plate)?.iter().map(|p| Scan { w: p.w, h: p.h, body: body(p) }).collect())
+    let scan = |p: &Picture| Scan { w: p.w, h: p.h, unit: p.unit, sheet: p.sheet, body: body(p) };
+    Some(plate::pictures(plate)?.iter().map(scan).collect())
 }
 
-/// The plate of these scans, whatever their number and lengths.
+/// The plate of these scans, whatever their number, lengths and units. Version 1 has no unit and sheet.
 pub fn file(version: u16, scans: &[Scan]) -> Vec<u8> {
     let mut bytes = [version.to_le_bytes(), (scans.len() as u16).to_le_bytes()].concat();
-    let mut offset = (HEAD + ENTRY * scans.len()) as u32;
+    let mut offset = (HEAD + entry_size(version.into()) * scans.len()) as u32;
     for scan in scans {
         let length = scan.body.len() as u32;
         bytes.extend([(scan.w as u16).to_le_bytes(), (scan.h as u16).to_le_bytes()].concat());
         bytes.extend([offset.to_le_bytes(), length.to_le_bytes()].concat());
+        if version != 1 {
+            bytes.extend([(scan.unit as u16).to_le_bytes(), scan.sheet.to_le_bytes()].concat());
+        }
         offset += length;
     }
     bytes.extend(scans.iter().flat_map(|scan| &scan.body));
@@ -46,14 +52,24 @@ pub fn start(buffer: &mut [u8], version: u32) -> (u32, u64) {
     (0, new.len() as u64)
 }
 
-/// Add: 10, 1, 2, then 13. The number, and the new length in use. Version 1 ignores unit and sheet.
-pub fn add(buffer: &mut [u8], used: u64, picture: &[u8], w: u32, h: u32, _unit: u32, _sheet: u16) -> (u32, u64) {
+/// The version of a plate, or of any bytes.
+pub fn version(plate: &[u8]) -> u16 {
+    plate.get(..2).map_or(0, |bytes| u16::from_le_bytes([bytes[0], bytes[1]]))
+}
+
+/// Add: 10, also for a wrong unit, then 1, 2, 13. The number, and the new length in use. Version 1 ignores unit and
+/// sheet.
+pub fn add(buffer: &mut [u8], used: u64, picture: &[u8], w: u32, h: u32, unit: u32, sheet: u16) -> (u32, u64) {
     let plate = in_use(buffer, used).unwrap_or_default();
-    let old = scans(plate);
-    let refused = first(&[(10, old.is_none()), (1, refusal::sides(w, h)), (2, refusal::length(picture, w, h))]);
+    let (version, old) = (version(plate), scans(plate));
+    let refused = first(&[
+        (10, old.is_none() || wrong_unit(version.into(), unit)),
+        (1, refusal::sides(w, h)),
+        (2, refusal::length(picture, w, h)),
+    ]);
     let (0, Some(mut scans)) = (refused, old) else { return (refused, 0) };
-    scans.push(Scan { w, h, body: picture.to_vec() });
-    let new = file(u16::from_le_bytes([plate[0], plate[1]]), &scans);
+    scans.push(Scan { w, h, unit, sheet, body: picture.to_vec() });
+    let new = file(version, &scans);
     if scans.len() > MOST_PICTURES || new.len() > LONGEST || new.len() > buffer.len() {
         return (13, 0);
     }

@@ -1,5 +1,5 @@
 //! Plates written by hand, and what comes of adding pictures to an empty one.
-use rule::plate::{job, picture};
+use rule::plate::{job, label, picture};
 use rule::plate_write::{add, start};
 
 /// One pixel, as document 01 has it.
@@ -45,7 +45,7 @@ fn refusals_in_their_order() {
     assert_eq!(refused(&ONE, 20, &[1, 2, 3, 4], 1, 1), 13);
     assert_eq!(refused(&room[..35], 20, &[1, 2, 3, 4], 1, 1), 13);
     assert_eq!(add(&mut room[..36].to_vec(), 20, &[1, 2, 3, 4], 1, 1, 1, 1), (0, 36));
-    for (version, length, number) in [(0, 9, 10), (65537, 9, 10), (0, 3, 10), (1, 3, 13), (1, 0, 13)] {
+    for (version, length, number) in [(3, 9, 10), (0, 9, 10), (65537, 9, 10), (0, 3, 10), (1, 3, 13), (1, 0, 13)] {
         let mut buffer = vec![5; length];
         assert_eq!(start(&mut buffer, version), (number, 0));
         assert_eq!(buffer, vec![5; length]);
@@ -68,4 +68,58 @@ fn sixty_four_pictures_and_16384_bytes() {
     let empty = [vec![1, 0, 0, 0], vec![0; 20000]].concat();
     assert_eq!(add(&mut empty.clone(), 4, &[9; 16368], 1, 4092, 0, 0), (0, 16384));
     assert_eq!(refused(&empty, 4, &[9; 16372], 1, 4093), 13);
+}
+
+/// Version 2 by hand: one pixel in microohms of sheet 258, then two in milliohms of sheet 0.
+#[rustfmt::skip]
+const LABELLED: [u8; 48] = [
+    2, 0, 2, 0,
+    1, 0, 1, 0, 36, 0, 0, 0, 4, 0, 0, 0, 2, 0, 2, 1,
+    2, 0, 1, 0, 40, 0, 0, 0, 8, 0, 0, 0, 1, 0, 0, 0,
+    0x0A, 0x14, 0x1E, 0xFF,
+    1, 2, 3, 4, 1, 2, 3, 4,
+];
+
+#[test]
+fn labelled() {
+    let mut buffer = [0xEE; 50];
+    assert_eq!(start(&mut buffer, 2), (0, 4));
+    assert_eq!(add(&mut buffer, 4, &LABELLED[36..40], 1, 1, 2, 258), (0, 24));
+    assert_eq!(add(&mut buffer, 24, &LABELLED[40..], 2, 1, 1, 0), (0, 48));
+    assert_eq!((&buffer[..48], &buffer[48..]), (&LABELLED[..], &[0xEE; 2][..]));
+    assert_eq!([0, 1, 2].map(|i| label(&LABELLED, i)), [(0, 2, 258), (0, 1, 0), (12, 0, 0)]);
+    let second = picture(&LABELLED, 1).1;
+    assert_eq!((second.w, second.h, second.offset, second.length), (2, 1, 40, 8));
+    // flat pictures stay under the job, and with them the whole plate
+    let mut plate = LABELLED;
+    assert_eq!(job(&mut plate, &mut [9; 8]), 0);
+    assert_eq!(plate, LABELLED);
+}
+
+#[test]
+fn version_1_has_no_label() {
+    assert_eq!([0, 1].map(|i| label(&ONE, i)), [(0, 0, 0), (12, 0, 0)]);
+    let added = |unit, sheet| {
+        let mut buffer = [ONE.to_vec(), vec![0; 30]].concat();
+        assert_eq!(add(&mut buffer, 20, &[1, 2, 3, 4, 5, 6, 7, 8], 2, 1, unit, sheet), (0, 40));
+        buffer
+    };
+    assert_eq!(added(0, 0), added(u32::MAX, 65535));
+    assert_eq!(added(1, 1)[..40], TWO);
+}
+
+#[test]
+fn wrong_units_and_versions() {
+    for (at, byte) in [(16, 0), (16, 3), (17, 1), (32, 3), (33, 1), (0, 1), (0, 3), (0, 0), (1, 1)] {
+        let mut plate = LABELLED;
+        plate[at] = byte;
+        assert_eq!((label(&plate, 0), picture(&plate, 0).0, job(&mut plate, &mut [0; 9])), ((10, 0, 0), 10, 10));
+    }
+    let under_2 = [&[2], &ONE[1..]].concat();
+    assert_eq!(label(&under_2, 0).0, 10);
+    let room = [LABELLED.to_vec(), vec![0; 30]].concat();
+    for unit in [0, 3, 257, 65537, u32::MAX] {
+        assert_eq!(add(&mut room.clone(), 48, &[], 0, 0, unit, 0), (10, 0));
+    }
+    assert_eq!(add(&mut room.clone(), 48, &[], 0, 0, 2, 0), (1, 0));
 }

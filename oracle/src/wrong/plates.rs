@@ -2,8 +2,8 @@
 use super::{cases, changed, lawful, refused, told_apart, told_by_vectors, Wrong};
 use crate::case::{Case, Entry, Outcome};
 use crate::plate_cases;
-use rule::plate::{ENTRY, HEAD, LONGEST, MOST_PICTURES};
-use rule::plate_write::{file, in_use, scans, Scan};
+use rule::plate::{entry_size, wrong_unit, HEAD, LONGEST, MOST_PICTURES, NEWEST};
+use rule::plate_write::{file, in_use, scans, version, Scan};
 use rule::refusal;
 
 /// The limits and the order of the checks.
@@ -15,19 +15,31 @@ struct Writer {
     order: [u32; 4],
     /// Where the new picture goes, of the old ones' count.
     at: fn(usize) -> usize,
+    /// Whether a version takes no such unit.
+    wrong_unit: fn(u64, u32) -> bool,
+    /// What is written of unit and sheet.
+    label: fn(u32, u16) -> (u32, u16),
 }
 
-const RIGHT: Writer =
-    Writer { most: MOST_PICTURES, longest: LONGEST, spare: 0, order: [10, 1, 2, 13], at: |count| count };
+const RIGHT: Writer = Writer {
+    most: MOST_PICTURES,
+    longest: LONGEST,
+    spare: 0,
+    order: [10, 1, 2, 13],
+    at: |count| count,
+    wrong_unit,
+    label: |unit, sheet| (unit, sheet),
+};
 
 impl Writer {
     fn add(&self, case: &Case) -> Outcome {
         let plate = in_use(&case.picture, case.used).unwrap_or_default();
-        let mut new = scans(plate).unwrap_or_default();
-        new.insert((self.at)(new.len()), Scan { w: case.w, h: case.h, body: case.other.clone() });
-        let whole = (plate.len() + ENTRY) as u128 + refusal::bytes(case.w, case.h);
+        let (version, mut new) = (version(plate), scans(plate).unwrap_or_default());
+        let (unit, sheet) = (self.label)(case.unit, case.sheet);
+        new.insert((self.at)(new.len()), Scan { w: case.w, h: case.h, unit, sheet, body: case.other.clone() });
+        let whole = (plate.len() + entry_size(version.into())) as u128 + refusal::bytes(case.w, case.h);
         let holds = |number: &&u32| match number {
-            10 => scans(plate).is_none(),
+            10 => scans(plate).is_none() || (self.wrong_unit)(version.into(), case.unit),
             1 => refusal::sides(case.w, case.h),
             2 => refusal::length(&case.other, case.w, case.h),
             _ => {
@@ -39,16 +51,16 @@ impl Writer {
             return refused(case, *number);
         }
         let mut outcome = refused(case, 0);
-        let bytes = file(1, &new);
+        let bytes = file(version, &new);
         outcome.picture[..bytes.len()].copy_from_slice(&bytes);
         outcome.numbers[0] = bytes.len() as u64;
         outcome
     }
 }
 
-/// The place of an entry's offset in a plate's table.
-fn offset(i: usize) -> std::ops::Range<usize> {
-    HEAD + ENTRY * i + 4..HEAD + ENTRY * i + 8
+/// The bytes of a plate's table entry.
+fn entry_of(plate: &[u8]) -> usize {
+    entry_size(version(plate).into())
 }
 
 /// The offset of one of the old pictures stays as it was.
@@ -56,8 +68,8 @@ fn offset_kept(case: &Case, which: fn(usize) -> usize) -> Outcome {
     changed(case, 0, |outcome| {
         let old = usize::from(case.picture[2]);
         if old > 0 {
-            let at = offset(which(old));
-            outcome.picture[at.clone()].copy_from_slice(&case.picture[at]);
+            let at = HEAD + entry_of(&case.picture) * which(old) + 4;
+            outcome.picture[at..at + 4].copy_from_slice(&case.picture[at..at + 4]);
         }
     })
 }
@@ -66,16 +78,17 @@ fn offset_kept(case: &Case, which: fn(usize) -> usize) -> Outcome {
 fn front_to_back(case: &Case) -> Outcome {
     changed(case, 0, |outcome| {
         let mut bytes = case.picture.clone();
-        let table = HEAD + ENTRY * usize::from(case.picture[2]);
+        let entry = entry_of(&bytes);
+        let table = HEAD + entry * usize::from(case.picture[2]);
         for i in table..case.used as usize {
-            bytes[i + ENTRY] = bytes[i];
+            bytes[i + entry] = bytes[i];
         }
-        let moved = table + ENTRY..case.used as usize + ENTRY;
+        let moved = table + entry..case.used as usize + entry;
         outcome.picture[moved.clone()].copy_from_slice(&bytes[moved]);
     })
 }
 
-const ADDS: [Wrong; 21] = [
+const ADDS: [Wrong; 28] = [
     ("the first offset kept", |case| offset_kept(case, |_| 0)),
     ("the last offset kept", |case| offset_kept(case, |old| old - 1)),
     ("bodies moved front to back", front_to_back),
@@ -99,7 +112,120 @@ const ADDS: [Wrong; 21] = [
     ("the old length answered", |case| changed(case, 0, |outcome| outcome.numbers[0] = case.used)),
     ("the old length answered on 13", |case| changed(case, 13, |outcome| outcome.numbers[0] = case.used)),
     ("sides cut to 16 bits", |case| lawful(&Case { w: case.w as u16 as u32, h: case.h as u16 as u32, ..case.clone() })),
+    ("the unit checked in version 1", |case| {
+        Writer { wrong_unit: |_, unit| unit != 1 && unit != 2, ..RIGHT }.add(case)
+    }),
+    ("the unit not checked", |case| Writer { wrong_unit: |_, _| false, ..RIGHT }.add(case)),
+    ("unit 3 taken", |case| Writer { wrong_unit: |v, unit| v != 1 && !(1..4).contains(&unit), ..RIGHT }.add(case)),
+    ("the unit cut to 16 bits", |case| lawful(&Case { unit: case.unit as u16 as u32, ..case.clone() })),
+    ("the sheet cut to 8 bits", |case| Writer { label: |unit, sheet| (unit, sheet % 256), ..RIGHT }.add(case)),
+    ("unit and sheet exchanged", |case| Writer { label: |unit, sheet| (sheet.into(), unit as u16), ..RIGHT }.add(case)),
+    ("a wrong unit found after 1, 2 and 13", |case| {
+        let kind = Case { unit: 1, ..case.clone() };
+        if lawful(&kind).answer != 0 {
+            lawful(&kind)
+        } else {
+            lawful(case)
+        }
+    }),
 ];
+
+/// How a plate is read.
+struct Reader {
+    newest: u16,
+    entry_size: fn(u16) -> usize,
+    /// Whether the unit of an entry is checked.
+    checked: fn(usize) -> bool,
+}
+
+const RIGHT_READER: Reader =
+    Reader { newest: NEWEST as u16, entry_size: |version| entry_size(version.into()), checked: |_| true };
+
+impl Reader {
+    /// The place of each label of a plate that is taken.
+    fn labels(&self, plate: &[u8]) -> Option<Vec<usize>> {
+        let number = |at: usize, length: usize| {
+            let bytes = plate.get(at..at + length)?;
+            Some(bytes.iter().rev().fold(0, |value, byte| 256 * value + usize::from(*byte)))
+        };
+        let (version, count) = (number(0, 2)? as u16, number(2, 2)?);
+        let size = (self.entry_size)(version);
+        let mut end = HEAD + size * count;
+        let mut taken = (1..=self.newest).contains(&version) && count <= MOST_PICTURES && plate.len() <= LONGEST;
+        for at in (0..count).map(|i| HEAD + size * i) {
+            let (w, h) = (number(at, 2)? as u32, number(at + 2, 2)? as u32);
+            let unit = if version == 1 { 1 } else { number(at + 12, 2)? as u32 };
+            taken &= !refusal::sides(w, h) && number(at + 4, 4)? == end;
+            taken &= number(at + 8, 4)? as u128 == refusal::bytes(w, h);
+            taken &= !((self.checked)((at - HEAD) / size) && wrong_unit(version.into(), unit));
+            end += number(at + 8, 4)?;
+        }
+        (taken && end == plate.len()).then(|| (0..count).map(|i| HEAD + size * i + 12).collect())
+    }
+
+    fn label(&self, case: &Case) -> Outcome {
+        let plate = &case.picture;
+        let Some(labels) = self.labels(plate) else { return refused(case, 10) };
+        let Some(at) = labels.get(case.x as u32 as usize) else { return refused(case, 12) };
+        let mut outcome = refused(case, 0);
+        if version(plate) != 1 {
+            let word = |at: usize| u64::from(u16::from_le_bytes([plate[at], plate[at + 1]]));
+            outcome.numbers = [word(*at), word(at + 2), 0, 0];
+        }
+        outcome
+    }
+
+    /// A lookup or a job that takes other plates than the rule does: what it answers to them is wrong in any case.
+    fn other_plates(&self, case: &Case) -> Outcome {
+        let taken = self.labels(&case.picture).is_some();
+        match (taken, lawful(case).answer == 10) {
+            (false, false) => refused(case, 10),
+            (true, true) => refused(case, 0),
+            _ => lawful(case),
+        }
+    }
+}
+
+const LABELS: [Wrong; 13] = [
+    ("version 3 taken", |case| Reader { newest: 3, ..RIGHT_READER }.label(case)),
+    ("version 2 refused", |case| Reader { newest: 1, ..RIGHT_READER }.label(case)),
+    ("entries of 12 bytes in version 2", |case| Reader { entry_size: |_| 12, ..RIGHT_READER }.label(case)),
+    ("entries of 16 bytes in version 1", |case| Reader { entry_size: |_| 16, ..RIGHT_READER }.label(case)),
+    ("units not checked", |case| Reader { checked: |_| false, ..RIGHT_READER }.label(case)),
+    ("the first unit checked alone", |case| Reader { checked: |i| i == 0, ..RIGHT_READER }.label(case)),
+    ("the first unit not checked", |case| Reader { checked: |i| i != 0, ..RIGHT_READER }.label(case)),
+    ("the sheet cut to 8 bits", |case| changed(case, 0, |outcome| outcome.numbers[1] %= 256)),
+    ("unit and sheet exchanged", |case| changed(case, 0, |outcome| outcome.numbers.swap(0, 1))),
+    ("version 1 labelled 1", |case| changed(case, 0, |o| o.numbers[0] = o.numbers[0].max(1))),
+    ("a unit answered on 10", |case| changed(case, 10, |outcome| outcome.numbers[0] = 7)),
+    ("a sheet answered on 12", |case| changed(case, 12, |outcome| outcome.numbers[1] = 7)),
+    ("the first label always", |case| {
+        let first = Case { x: 0, ..case.clone() };
+        if lawful(case).answer == 0 {
+            lawful(&first)
+        } else {
+            lawful(case)
+        }
+    }),
+];
+
+/// Of the job and the lookup alike.
+const PLATES: [Wrong; 5] = [
+    ("version 3 taken", |case| Reader { newest: 3, ..RIGHT_READER }.other_plates(case)),
+    ("version 2 refused", |case| Reader { newest: 1, ..RIGHT_READER }.other_plates(case)),
+    ("entries of 12 bytes in version 2", |case| Reader { entry_size: |_| 12, ..RIGHT_READER }.other_plates(case)),
+    ("units not checked", |case| Reader { checked: |_| false, ..RIGHT_READER }.other_plates(case)),
+    ("the first unit checked alone", |case| Reader { checked: |i| i == 0, ..RIGHT_READER }.other_plates(case)),
+];
+
+const JOBS: [Wrong; 1] = [("the labels cleared", |case| {
+    changed(case, 0, |outcome| {
+        if version(&case.picture) != 1 {
+            let labels = RIGHT_READER.labels(&case.picture).unwrap_or_default();
+            labels.iter().for_each(|at| outcome.picture[*at..at + 4].fill(0));
+        }
+    })
+})];
 
 const STARTS: [Wrong; 6] = [
     ("the version cut to 16 bits", |case| lawful(&Case { unit: case.unit as u16 as u32, ..case.clone() })),
@@ -123,6 +249,18 @@ fn writing() {
 }
 
 #[test]
+fn reading() {
+    let cases = cases(&[Entry::PlateLabel], plate_cases::all);
+    for (case, outcome) in cases.iter().filter(|(case, _)| case.entry == Entry::PlateLabel) {
+        assert_eq!(RIGHT_READER.label(case), *outcome, "{case}");
+    }
+    told_apart(&cases, Entry::PlateLabel, &LABELS);
+    told_apart(&cases, Entry::PlatePicture, &PLATES);
+    told_apart(&cases, Entry::PlateJob, &PLATES);
+    told_apart(&cases, Entry::PlateJob, &JOBS);
+}
+
+#[test]
 fn stored() {
     told_by_vectors(Entry::PlateStart, &STARTS, &[]);
     told_by_vectors(
@@ -130,4 +268,8 @@ fn stored() {
         &ADDS,
         &["65 pictures", "63 pictures", "16384 bytes refused", "16388 bytes taken"],
     );
+    told_by_vectors(Entry::PlateLabel, &LABELS, &[]);
+    told_by_vectors(Entry::PlatePicture, &PLATES, &[]);
+    told_by_vectors(Entry::PlateJob, &PLATES, &[]);
+    told_by_vectors(Entry::PlateJob, &JOBS, &[]);
 }
