@@ -20,7 +20,7 @@ use Rattle.plate.proofs.Settle.{listed, there}
 use Rattle.plate_write.specs.Added.{emptyPlate, added}
 use Rattle.plate_write.specs.Outcome.{Grown, grown, inUse}
 use Rattle.plate_write.specs.Steps.{Adding}
-use Rattle.plate_write.specs.ReadsBack.{movedOn, newest, ReadsBack}
+use Rattle.plate_write.specs.ReadsBack.{movedOn, lastAdded, ReadsBack}
 use Rattle.plate_write.specs.declared.Added.the-variants.{InUse}
 use Rattle.plate_write.specs.declared.Started.the-variants.{Empty}
 use Rattle.plate_write.proofs.Back.{Addable, version-kept, count-more, old-entry-is, new-entry-is, offset-is, last, length-added, old-body, new-body, still}
@@ -101,7 +101,7 @@ reads-back κs a used′ left post =
 pub finds-back : {old new picture : List ℕ} {w h : ℕ} {label : Beside} → ReadsBack old new w h label picture →
     (κs : Lfts 1) (a : Dens κs find-kinds.ps) (r : Lookup) (left : AtExit (endedOf 1 find-kinds.ps find-kinds.r) κs) → find.Post κs a r left → now (a .0) ≡ new →
     (a .1 .0 < count old → answers r ≡ movedOn (entrySize (version old)) (lookedUp old (a .1 .0)))
-    × (a .1 .0 ≡ count old → answers r ≡ answered 0 (newest old w h))
+    × (a .1 .0 ≡ count old → answers r ≡ answered 0 (lastAdded old w h))
 finds-back back κs a r left post is =
     (λ l. post ∙ ap (λ (file : List ℕ). lookedUp file (a .1 .0)) is ∙ back .old-found (a .1 .0) l, λ e. post ∙ rw (is, e) (back .new-found))
 

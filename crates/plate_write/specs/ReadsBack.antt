@@ -19,8 +19,8 @@ abbrev pub bytesAt : List ℕ → ℕ → List ℕ
 bytesAt file i = take (lookedUp file i .left .length) (drop (lookedUp file i .left .offset) file)
 
 -- the picture that comes after all old ones
-abbrev pub newest : List ℕ → ℕ → ℕ → Picture
-newest old w h = record { width = w; height = h; offset = length old + entrySize (version old); length = bytesOf w h }
+abbrev pub lastAdded : List ℕ → ℕ → ℕ → Picture
+lastAdded old w h = record { width = w; height = h; offset = length old + entrySize (version old); length = bytesOf w h }
 
 -- `new` is a plate of the same version with one picture more; each old picture is found one table entry further on with the same bytes, unit and sheet, and after them the new one
 pub record ReadsBack (old new : List ℕ) (w h : ℕ) (label : Beside) (picture : List ℕ) : Type 0 where
@@ -29,7 +29,7 @@ pub record ReadsBack (old new : List ℕ) (w h : ℕ) (label : Beside) (picture 
   pub one-more : count new ≡ count old + 1
   pub old-found : (i : ℕ) → i < count old → lookedUp new i ≡ movedOn (entrySize (version old)) (lookedUp old i)
   pub old-bytes : (i : ℕ) → i < count old → bytesAt new i ≡ bytesAt old i
-  pub new-found : lookedUp new (count old) ≡ answered 0 (newest old w h)
+  pub new-found : lookedUp new (count old) ≡ answered 0 (lastAdded old w h)
   pub new-bytes : bytesAt new (count old) ≡ picture
   pub old-labels : (i : ℕ) → i < count old → labelledUp new i ≡ labelledUp old i
   pub new-label : labelledUp new (count old) ≡ answered 0 (beside (given (version old) (label .unit)) (given (version old) (label .sheet)))
