@@ -116,6 +116,7 @@ fn report_plates(input: &[u8]) {
     print_count(b"plate job", count(input, 9));
     print_count(b"plate start", count(input, 10));
     print_count(b"plate add", count(input, 11));
+    print_count(b"plate label", count(input, 12));
 }
 
 fn report(input: &[u8]) {

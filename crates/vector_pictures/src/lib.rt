@@ -11,6 +11,9 @@ use vector_values::head;
 use vector_values::values;
 use vector_values::values::LONGEST;
 
+// What a sheet that is an out-parameter holds before a call.
+const UNSET_SHEET: u16 = 48879;
+
 fn shift(v: &[u64], picture: &mut [u8]) -> Reply {
     let w = head::word(v, 1);
     let h = head::word(v, 2);
@@ -74,6 +77,14 @@ fn plate_start(v: &[u64], buffer: &mut [u8]) -> Reply {
     replies::two(number, used, 0)
 }
 
+fn plate_label(v: &[u64], plate: &[u8]) -> Reply {
+    let mut unit = UNSET;
+    let mut sheet = UNSET_SHEET;
+    let index = head::word(v, 13);
+    let number = plates::corbelrush_plate_label(plate, index, &mut unit, &mut sheet);
+    replies::two(number, unit as u64, sheet as u64)
+}
+
 fn call(v: &[u64], picture: &mut [u8]) -> Reply {
     match head::number(v, 0) {
         2 => shift(v, picture),
@@ -81,7 +92,8 @@ fn call(v: &[u64], picture: &mut [u8]) -> Reply {
         5 => view(v, picture),
         6 => sample(v, picture),
         8 => plate_picture(v, picture),
-        _ => plate_start(v, picture),
+        10 => plate_start(v, picture),
+        _ => plate_label(v, picture),
     }
 }
 

@@ -12,7 +12,7 @@ pub fn agrees(v: &[u64]) -> bool {
     }
     match head::number(v, 0) {
         1 | 3 | 9 => vector_filters::agrees(v),
-        2 | 4..=6 | 8 | 10 => vector_pictures::agrees(v),
+        2 | 4..=6 | 8 | 10 | 12 => vector_pictures::agrees(v),
         7 => kernels::agrees(v),
         11 => vector_files::agrees(v),
         _ => false,
