@@ -58,10 +58,12 @@ int main(void)
     printf("spread of the blur: %.2f square pixels\n", (double)spread / 131072);
 
     uint64_t used, new_used, offset, length;
-    uint32_t w, h, number, count = 0;
-    corbelrush_plate_start(plate, sizeof plate, 1, &used);
+    uint32_t w, h, unit, number, count = 0;
+    uint16_t sheet;
+    corbelrush_plate_start(plate, sizeof plate, 2, &used);
     for (;;) {
-        number = corbelrush_plate_add(plate, sizeof plate, used, picture, BYTES, W, H, 0, 0, &new_used);
+        number = corbelrush_plate_add(plate, sizeof plate, used, picture, BYTES, W, H, CORBELRUSH_MILLIOHM,
+                                      (uint16_t)(count + 1), &new_used);
         if (number != CORBELRUSH_DONE) break;
         used = new_used; /* not &used above: a refusal answers 0, and the length would be lost */
         count++;
@@ -71,5 +73,7 @@ int main(void)
     corbelrush_plate_picture(plate, used, count - 1, &w, &h, &offset, &length);
     printf("the last one is %u by %u, %u bytes from %u on\n", (unsigned)w, (unsigned)h, (unsigned)length,
            (unsigned)offset);
+    corbelrush_plate_label(plate, used, count - 1, &unit, &sheet);
+    printf("it is in %s, of sheet %u\n", unit == CORBELRUSH_MILLIOHM ? "milliohms" : "another unit", (unsigned)sheet);
     return 0;
 }

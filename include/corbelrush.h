@@ -4,6 +4,12 @@
  * A picture is w by h pixels, each side 1 to 4096: bytes r, g, b, a for each pixel, premultiplied, row by row from the
  * top, exactly 4wh of them. Any byte values are taken.
  *
+ * A plate is a file of 0 to 64 pictures, at most 16384 bytes, its numbers little-endian: 2 bytes version, 1 or 2, and
+ * 2 bytes count; an entry for each picture; and the pictures in that order, with no gap and nothing after them. An
+ * entry of version 1 has 12 bytes: 2 width, 2 height, 4 offset, counted from the file's start, and 4 length, which is
+ * 4wh. One of version 2 has 16: the same, then 2 unit, which is 1 or 2, and 2 sheet number, which is any. So the first
+ * picture stands at 4 + 12 * count in version 1, and at 4 + 16 * count in version 2.
+ *
  * Every function but corbelrush_sample returns 0 when it is done, else the number of the first check that refuses: its
  * checks run in the order in which its refusals are listed below. A call that is refused changes no byte of any buffer,
  * and sets what it answers through pointers to 0 unless its text says otherwise. Any values of the other arguments are
@@ -40,7 +46,7 @@ enum {
     CORBELRUSH_NOT_FINITE = 7,    /* the strength or an offset is NaN or infinite */
     CORBELRUSH_WRONG_COLOUR = 8,  /* a colour component is NaN, below 0 or above 1 */
     CORBELRUSH_WRONG_EDGE = 9,    /* the edge number is none of the four below */
-    CORBELRUSH_BROKEN_PLATE = 10, /* the file breaks a rule of plates, no such version, or more in use than lent */
+    CORBELRUSH_BROKEN_PLATE = 10, /* the file breaks a rule of plates; no such version or unit; more in use than lent */
     CORBELRUSH_OFF_GRID = 11,     /* a weight is no multiple of 1/65536, or the weights do not sum to 1 */
     CORBELRUSH_NO_PICTURE = 12,   /* the plate has no picture of that index */
     CORBELRUSH_NO_ROOM = 13       /* the plate would pass 64 pictures, 16384 bytes or its buffer */
@@ -52,6 +58,12 @@ enum {
     CORBELRUSH_WRAP = 1,      /* itself again */
     CORBELRUSH_MIRROR = 2,    /* itself, mirrored, the border pixel twice */
     CORBELRUSH_NONE = 3       /* four zeros */
+};
+
+/* The unit that a plate of version 2 names beside each picture. A plate of version 1 names none, which is 0. */
+enum {
+    CORBELRUSH_MILLIOHM = 1,
+    CORBELRUSH_MICROOHM = 2
 };
 
 /*
@@ -136,19 +148,29 @@ uint32_t corbelrush_plate_picture(const uint8_t *plate, size_t plate_len, uint32
                                   uint64_t *offset, uint64_t *length);
 
 /*
+ * What a plate file names beside a picture, by its index counted from 0: *unit is CORBELRUSH_MILLIOHM or
+ * CORBELRUSH_MICROOHM, and *sheet the number of its sheet. In a plate of version 1 both are 0.
+ *
+ * Refusals: 10, 12; *unit and *sheet are 0.
+ * The plate is only read.
+ */
+uint32_t corbelrush_plate_label(const uint8_t *plate, size_t plate_len, uint32_t index, uint32_t *unit,
+                                uint16_t *sheet);
+
+/*
  * Blurs every picture of a plate file where it lies, with weights 1/4, 1/2, 1/4, n = 1, Duplicate and strength 1.
  *
  * Refusals: 10, 3 (scratch shorter than the plate's longest picture).
- * Done: each picture of plate is blurred and its table is as it was; as many first bytes of scratch as the longest
- * picture has are 0, the rest of it is as it was.
+ * Done: each picture of plate is blurred and its table is as it was, units and sheets too; as many first bytes of
+ * scratch as the longest picture has are 0, the rest of it is as it was.
  */
 uint32_t corbelrush_plate_job(uint8_t *plate, size_t plate_len, uint8_t *scratch, size_t scratch_len);
 
 /*
  * Starts a plate file of no pictures in the first bytes of buffer, whatever they held: *used is its length, 4. The
- * version is the one that the plate keeps, and must be 1 for now.
+ * version, 1 or 2, is the one that the plate keeps: no plate mixes the two.
  *
- * Refusals: 10 (there is no such version), 13 (buffer under 4 bytes); *used is 0.
+ * Refusals: 10 (the version is neither 1 nor 2), 13 (buffer under 4 bytes); *used is 0.
  * Done: the first *used bytes of buffer are the plate, the rest of it is as it was.
  */
 uint32_t corbelrush_plate_start(uint8_t *buffer, size_t buffer_len, uint32_t version, uint64_t *used);
@@ -156,12 +178,13 @@ uint32_t corbelrush_plate_start(uint8_t *buffer, size_t buffer_len, uint32_t ver
 /*
  * Adds a picture to the plate file that the first used bytes of buffer are: its table gets one entry more, the pictures
  * in it move on by that entry, and the new one comes last. Looked up in the new plate, each old picture has the index,
- * the sides and the bytes that it had. Bytes after the first used ones are no part of the plate. A plate of version 1
- * has no place for unit and sheet, and ignores both.
+ * the sides, the bytes, the unit and the sheet that it had. Bytes after the first used ones are no part of the plate.
+ * In a plate of version 2 the new picture has this unit, CORBELRUSH_MILLIOHM or CORBELRUSH_MICROOHM, and this sheet. A
+ * plate of version 1 has no place for them and ignores both, whatever they are, so that they may be 0 and 0.
  *
- * Refusals, in this order: 10 (used is beyond buffer_len, or those bytes are no plate), 1, 2, 13 (the plate would have
- * more than 64 pictures, more than 16384 bytes or more than buffer_len). On refusal *new_used is 0, so do not hand in
- * the address of your own length.
+ * Refusals, in this order: 10 (used is beyond buffer_len, those bytes are no plate, or they are one of version 2 and
+ * unit is neither 1 nor 2), 1, 2, 13 (the plate would have more than 64 pictures, more than 16384 bytes or more than
+ * buffer_len). On refusal *new_used is 0, so do not hand in the address of your own length.
  * Done: the first *new_used bytes of buffer are the plate, the rest of it is as it was. The picture is only read.
  */
 uint32_t corbelrush_plate_add(uint8_t *buffer, size_t buffer_len, uint64_t used, const uint8_t *picture,
