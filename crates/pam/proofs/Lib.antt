@@ -1,0 +1,7 @@
+-- Laws of the definitions of specs/, for this crate's proofs and for those above it.
+pub mod Reciprocals
+pub mod Straight
+pub mod Scanned
+pub mod Recolouring
+pub mod Imports
+pub mod Exports

@@ -1,0 +1,58 @@
+-- Laws of a channel outward: it is a byte, it is the same where the pixel is opaque, a product gives it, and it survives outward and inward.
+use mathlib.Core.Path.{_≡_, refl, sym, ap, _∙_}
+use mathlib.Core.Bool.{true, false}
+use Prim.Native.Nat.{ℕ, zero, suc, _+_, _-_, _*_, _/_, _≤_, _<_}
+use native.Mathlib.Nat.{div-mul-le-self, lt-div-mul-add, div-lt-iff-lt-mul, add-mul, mul-assoc, mul-left-comm, mul-le-mul}
+use native.Mathlib.Omega.{arith}
+use borrow.Author.Tests.{ne-eqb}
+use Rattle.pixels.specs.Channels.{premultiply}
+use Rattle.pam.specs.Straight.{outward, reciprocal}
+use Rattle.pam.proofs.Reciprocals.{by-product}
+
+-- outward by an alpha that is not 0
+divided : (c a : ℕ) → outward c (suc a) ≡ (255 * c + suc a / 2) / suc a
+unfolding outward
+divided c a = rw (ne-eqb (suc a) 0 (λ e. let z : ⊥ = omega arith in z))
+
+-- the nearest whole number to 255c / a, times a, is 255c to half of a: too little for the next c
+back : (c a : ℕ) → 0 < a → a ≤ 255 → ((255 * c + a / 2) / a * a + 127) / 255 ≡ c
+back c a l b = omega (arith, div-mul-le-self (255 * c + a / 2) a, lt-div-mul-add {a = 255 * c + a / 2} l)
+
+pub survives : (c a : ℕ) → c ≤ a → a ≤ 255 → premultiply (outward c a) a ≡ c
+unfolding premultiply outward
+survives c zero l b = omega arith
+survives c (suc a) l b = rw (divided c a) (back c (suc a) (omega arith) b)
+
+pub outward-byte : (c a : ℕ) → c ≤ a → outward c a < 256
+unfolding outward
+outward-byte c zero l = omega arith
+outward-byte c (suc a) l = let pos : 0 < suc a = omega arith in rw (divided c a) (div-lt-iff-lt-mul {x = 255 * c + suc a / 2} pos .1 (omega arith))
+
+pub outward-opaque : (c : ℕ) → outward c 255 ≡ c
+unfolding outward
+outward-opaque c = omega arith
+
+reciprocal-is : (a : ℕ) → reciprocal (suc a) ≡ (4294967296 + (suc a - 1)) / suc a
+unfolding reciprocal
+reciprocal-is a = rw (ne-eqb (suc a) 0 (λ e. let z : ⊥ = omega arith in z))
+
+-- the reciprocal of an alpha is at most 2^32
+pub reciprocal-most : (a : ℕ) → reciprocal a < 4294967297
+unfolding reciprocal
+reciprocal-most zero = omega arith
+reciprocal-most (suc a) = let pos : 0 < suc a = omega arith in rw (reciprocal-is a) (div-lt-iff-lt-mul {x = 4294967296 + (suc a - 1)} pos .1 (omega arith))
+
+-- the products have room
+pub room : (c h by : ℕ) → c ≤ 255 → h ≤ 127 → by < 4294967297 → (c * (255 * by) ≤ 279280248422400) × (h * by ≤ 545460846592)
+room c h by l m n =
+    (mul-le-mul {n₁ = c} {m₁ = 255 * by} {n₂ = 255} {m₂ = 1095216660480} l (omega arith), mul-le-mul {n₁ = h} {m₁ = by} {n₂ = 127} {m₂ = 4294967296} m (omega arith))
+
+-- the product in two parts that do not change with the channel
+folded : (c h by : ℕ) → c * (255 * by) + h * by ≡ (255 * c + h) * by
+folded c h by = omega (arith, add-mul (255 * c) h by, mul-assoc 255 c by, mul-left-comm c 255 by)
+
+pub by-reciprocal : (c a : ℕ) → c ≤ a → a ≤ 255 → (c * (255 * reciprocal a) + a / 2 * reciprocal a) / 4294967296 ≡ outward c a
+unfolding reciprocal outward
+by-reciprocal c zero l b = let none : c ≡ 0 = omega arith in rw none
+by-reciprocal c (suc a) l b =
+    rw (folded c (suc a / 2) (reciprocal (suc a)), reciprocal-is a, divided c a) (by-product (255 * c + suc a / 2) (suc a) (omega arith) b (omega arith))

@@ -1,0 +1,40 @@
+-- Straight channels in the testers' files, premultiplied ones in a picture.
+use mathlib.Core.Bool.{cond}
+use mathlib.Core.List.{List}
+use Prim.Native.Nat.{ℕ, _+_, _-_, _*_, _/_}
+use lib.Dec.{eqb}
+use Rattle.picture.specs.Build.{build}
+use Rattle.picture.specs.Planes.{chan, painted}
+use Rattle.picture.specs.declared.Pixel.{Pixel}
+use Rattle.pixels.specs.Channels.{premultiply}
+
+-- outward: c becomes floor((255·c + floor(a/2)) / a), or 0 when a is 0
+unfoldable pub outward : ℕ → ℕ → ℕ
+outward c a = cond (eqb a 0) 0 ((255 * c + a / 2) / a)
+
+-- a pixel whose r, g and b are each made anew by a rule of it and its alpha; the alpha stays
+abbrev pub recolouredPixel : (ℕ → ℕ → ℕ) → Pixel → Pixel
+recolouredPixel f p = record { r = f (p .r) (p .a); g = f (p .g) (p .a); b = f (p .b) (p .a); a = p .a }
+
+-- channel c of such a pixel
+abbrev pub recolouredChannel : (ℕ → ℕ → ℕ) → ℕ → ℕ → ℕ → ℕ
+recolouredChannel f c channel alpha = cond (eqb c 3) alpha (f channel alpha)
+
+-- a picture all of whose pixels are
+unfoldable pub recoloured : (ℕ → ℕ → ℕ) → ℕ → ℕ → List ℕ → List ℕ
+recoloured f w h bytes = painted w h (λ c x y. recolouredChannel f c (chan bytes w c x y) (chan bytes w 3 x y))
+
+-- inward, c becomes floor((c·a + 127) / 255), which is `premultiply`
+abbrev pub imported : ℕ → ℕ → List ℕ → List ℕ
+imported w h body = recoloured premultiply w h body
+
+abbrev pub exported : ℕ → ℕ → List ℕ → List ℕ
+exported w h picture = recoloured outward w h picture
+
+-- 2^32 / a upward, with which a product and a shift divide by an alpha; 0 for alpha 0
+unfoldable pub reciprocal : ℕ → ℕ
+reciprocal a = cond (eqb a 0) 0 ((4294967296 + (a - 1)) / a)
+
+-- one for each alpha
+unfoldable pub reciprocals : List ℕ
+reciprocals = build 256 reciprocal
