@@ -5,3 +5,7 @@ pub mod Scanned
 pub mod Recolouring
 pub mod Imports
 pub mod Exports
+pub mod Channels
+pub mod Accepted
+pub mod Determined
+pub mod Survives
