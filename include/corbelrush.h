@@ -49,7 +49,9 @@ enum {
     CORBELRUSH_BROKEN_PLATE = 10, /* the file breaks a rule of plates; no such version or unit; more in use than lent */
     CORBELRUSH_OFF_GRID = 11,     /* a weight is no multiple of 1/65536, or the weights do not sum to 1 */
     CORBELRUSH_NO_PICTURE = 12,   /* the plate has no picture of that index */
-    CORBELRUSH_NO_ROOM = 13       /* the plate would pass 64 pictures, 16384 bytes or its buffer */
+    CORBELRUSH_NO_ROOM = 13,      /* the plate would pass 64 pictures, 16384 bytes or its buffer */
+    CORBELRUSH_NO_PAM = 15,       /* the file is no PAM file as corbelrush_pam_write writes it, or its length does not fit */
+    CORBELRUSH_EXCEEDS = 16       /* a channel exceeds its alpha */
 };
 
 /* What a picture is beyond its borders. */
@@ -190,6 +192,38 @@ uint32_t corbelrush_plate_start(uint8_t *buffer, size_t buffer_len, uint32_t ver
 uint32_t corbelrush_plate_add(uint8_t *buffer, size_t buffer_len, uint64_t used, const uint8_t *picture,
                               size_t picture_len, uint32_t w, uint32_t h, uint32_t unit, uint16_t sheet,
                               uint64_t *new_used);
+
+/*
+ * Reads a Netpbm PAM file with straight alpha: its channels are multiplied by their alpha, to the nearest whole number.
+ * The header is spelt as corbelrush_pam_write spells it, to the byte, its sides are 1 to 4096, and 4wh bytes follow it,
+ * no more and no fewer. *w and *h are the sides and *written is 4wh, how many bytes of picture were written.
+ *
+ * Refusals: 15, 3 (picture under 4wh bytes); *w, *h and *written are 0.
+ * Done: the first 4wh bytes of picture are the file's picture, premultiplied; the rest of it is as it was.
+ */
+uint32_t corbelrush_pam_read(const uint8_t *file, size_t file_len, uint8_t *picture, size_t picture_len, uint32_t *w,
+                             uint32_t *h, uint64_t *written);
+
+/*
+ * Writes a picture as a Netpbm PAM file with straight alpha: its channels are divided by their alpha, to the nearest
+ * whole number, and are 0 where the alpha is 0. *written is the length of the file: 4wh, and at most 73 bytes of header:
+ *
+ *     P7
+ *     WIDTH (w)
+ *     HEIGHT (h)
+ *     DEPTH 4
+ *     MAXVAL 255
+ *     TUPLTYPE RGB_ALPHA
+ *     ENDHDR
+ *
+ * each line ended by one newline. What was written reads back as the same picture.
+ *
+ * Refusals: 1, 2, 16 (r, g or b of a pixel exceeds a), 3 (file under *written bytes); *written is 0, and *place is the
+ * place y * w + x of the first such pixel on 16, and 0 else, also when done.
+ * Done: the first *written bytes of file are the PAM file; the rest of it is as it was.
+ */
+uint32_t corbelrush_pam_write(const uint8_t *picture, size_t picture_len, uint32_t w, uint32_t h, uint8_t *file,
+                              size_t file_len, uint64_t *written, uint64_t *place);
 
 #ifdef __cplusplus
 }

@@ -38,7 +38,7 @@ use Rattle.corbelrush.proofs.plates.corbelrush_plate_add.Kinds as plate
 
 -- `seen` is what C sees of a call: the number, and what is behind each pointer that the call may write through
 module _ {n : ℕ} (ps : List (PK n)) (r : RK n) (Post : Out n ps r) {B : Type 0} (seen : (κs : Lfts n) → resT r κs .Denot → AtExit (endedOf n ps r) κs → B) where
-  abbrev Determined : Type 0
+  abbrev pub Determined : Type 0
   Determined = (κs : Lfts n) (a : Dens κs ps) (r₁ r₂ : resT r κs .Denot) (x₁ x₂ : AtExit (endedOf n ps r) κs) → Post κs a r₁ x₁ → Post κs a r₂ x₂ → seen κs r₁ x₁ ≡ seen κs r₂ x₂
 
 pub blur-determined : Determined blur-kinds.ps blur-kinds.r blur.Post (λ κs r x. answered r (lent (now (x .0)) (now (x .1 .1 .1 .0))))

@@ -2,3 +2,4 @@
 pub mod Sides
 pub mod Determined
 pub mod Runs
+pub mod ImageRuns

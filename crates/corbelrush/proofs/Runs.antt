@@ -55,14 +55,14 @@ module _ {n : ℕ} (ps : List (PK n)) (r : RK n) (Post : Out n ps r) where
 
   -- `given` is what a call is given: numbers, and what is behind each pointer that it reads; `seen` is what C sees of it afterwards
   module _ {G B : Type 0} (given : (κs : Lfts n) → Dens κs ps → G) (seen : (κs : Lfts n) → resT r κs .Denot → AtExit (endedOf n ps r) κs → B) where
-    abbrev SameRuns : Type 0
+    abbrev pub SameRuns : Type 0
     SameRuns =
         (κ₁ κ₂ : Lfts n) (a₁ : Dens κ₁ ps) (a₂ : Dens κ₂ ps) → given κ₁ a₁ ≡ given κ₂ a₂ →
         (r₁ : resT r κ₁ .Denot) (r₂ : resT r κ₂ .Denot) (x₁ : AtExit (endedOf n ps r) κ₁) (x₂ : AtExit (endedOf n ps r) κ₂) →
         Post κ₁ a₁ r₁ x₁ → Post κ₂ a₂ r₂ x₂ → seen κ₁ r₁ x₁ ≡ seen κ₂ r₂ x₂
 
     -- a contract that is an equation between what is seen and a definition of what is given
-    same-runs : (outcome : G → B) → ((κs : Lfts n) (a : Dens κs ps) (v : resT r κs .Denot) (x : AtExit (endedOf n ps r) κs) → Post κs a v x → seen κs v x ≡ outcome (given κs a)) → SameRuns
+    pub same-runs : (outcome : G → B) → ((κs : Lfts n) (a : Dens κs ps) (v : resT r κs .Denot) (x : AtExit (endedOf n ps r) κs) → Post κs a v x → seen κs v x ≡ outcome (given κs a)) → SameRuns
     same-runs outcome is κ₁ κ₂ a₁ a₂ e r₁ r₂ x₁ x₂ h₁ h₂ = is κ₁ a₁ r₁ x₁ h₁ ∙ ap outcome e ∙ sym (is κ₂ a₂ r₂ x₂ h₂)
 
 -- ---- blur

@@ -1,2 +1,3 @@
 -- How C gets what the entries answer.
 pub mod Words
+pub mod Images
