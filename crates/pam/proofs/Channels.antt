@@ -1,9 +1,8 @@
 -- Channels beside their alpha: a picture that passes the check survives outward and inward, and one that came inward passes.
-use mathlib.Core.Path.{_≡_, refl, sym, ap, ap₂, _∙_}
+use mathlib.Core.Path.{_≡_, refl, sym, ap₂, _∙_}
 use mathlib.Core.Bool.{false}
 use mathlib.Core.List.{List}
 use Prim.Native.Nat.{ℕ, zero, suc, _+_, _*_, _/_, _%_, _≤_, _<_}
-use native.Mathlib.Nat.{div-add-mod'}
 use native.Mathlib.Omega.{arith}
 use lib.ListN.{length, getD}
 use lib.Seq.{ext-getD}
@@ -11,11 +10,11 @@ use borrow.Author.Tests.{le-ltb}
 use Rattle.picture.specs.Planes.{bytesOf}
 use Rattle.picture.specs.declared.Pixel.{Pixel}
 use Rattle.pixels.specs.Pixels.{pixelAt}
-use Rattle.pixels.specs.Channels.{exceeds, exceedsAt, premultiply}
+use Rattle.pixels.specs.Channels.{exceeds, premultiply}
 use Rattle.pixels.proofs.Channels.{premultiply-le}
 use Rattle.pixels.proofs.Painting.{at}
 use Rattle.grading.specs.Premultiplied.{none, scanned}
-use Rattle.pam.specs.Straight.{outward, recolouredChannel, recoloured, imported, exported}
+use Rattle.pam.specs.Straight.{outward, recolouredChannel, imported, exported}
 use Rattle.pam.proofs.Recolouring.{anew, length-recoloured, recoloured-at}
 use Rattle.pam.proofs.Scanned.{passes-at, finds-none, below-alpha}
 use Rattle.pam.proofs.Straight.{survives}

@@ -1,6 +1,6 @@
 -- What writing a file comes to in each case of its checks.
-use mathlib.Core.Path.{_≡_, refl, sym, ap, _∙_}
-use mathlib.Core.Bool.{Bool, true, false, cond}
+use mathlib.Core.Path.{_≡_, refl, sym, ap}
+use mathlib.Core.Bool.{Bool, true, false}
 use mathlib.Core.List.{List}
 use Prim.Native.Nat.{ℕ}
 use native.Mathlib.Omega.{arith}
@@ -9,7 +9,7 @@ use lib.ListN.{length}
 use Rattle.picture.specs.Answer.{Answer, answered, settled}
 use Rattle.picture.specs.Planes.{laid}
 use Rattle.picture.specs.Refusal.{firstElse, firstOf, wrongSides, wrongLength}
-use Rattle.grading.specs.Premultiplied.{Finding, none, foundAt, checkNumber, finding, scanned, checked}
+use Rattle.grading.specs.Premultiplied.{Finding, none, foundAt, checkNumber, finding, checked}
 use Rattle.grading.specs.declared.premultiplied.PictureRefusal.{PictureRefusal}
 use Rattle.grading.specs.declared.premultiplied.PictureRefusal.the-variants.{WrongSides, WrongLength}
 use Rattle.grading.specs.declared.premultiplied.Place.{Place}

@@ -1,17 +1,12 @@
 -- A loop that makes the channels of pixel after pixel anew: a turn, and all of it; and channels made anew twice.
-use mathlib.Core.Path.{_≡_, refl, sym, ap, _∙_}
-use mathlib.Core.Bool.{Bool, true, false, cond}
+use mathlib.Core.Path.{_≡_, sym, _∙_}
 use mathlib.Core.List.{List}
 use Prim.Native.Nat.{ℕ, _+_, _*_, _/_, _%_, _≤_, _<_}
-use native.Mathlib.Nat.{div-add-mod'}
 use native.Mathlib.Omega.{arith}
-use lib.Dec.{eqb}
-use lib.ListN.{length, getD}
-use borrow.Author.Tests.{eqb-true}
-use Rattle.picture.specs.Build.{build}
-use Rattle.picture.specs.Planes.{bytesOf, chan, painted}
+use lib.ListN.{length}
+use Rattle.picture.specs.Planes.{bytesOf, painted}
 use Rattle.picture.specs.declared.Pixel.{Pixel}
-use Rattle.picture.proofs.Build.{length-build, getD-build, build-ext}
+use Rattle.picture.proofs.Build.{length-build, getD-build}
 use Rattle.pixels.specs.Pixels.{pixelAt, withPixel}
 use Rattle.pixels.proofs.Painting.{at, chan-here, Painting, turn, ends}
 use Rattle.pam.specs.Straight.{recolouredPixel, recolouredChannel, recoloured}

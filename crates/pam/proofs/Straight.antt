@@ -1,6 +1,5 @@
 -- Laws of a channel outward: it is a byte, it is the same where the pixel is opaque, a product gives it, and it survives outward and inward.
-use mathlib.Core.Path.{_≡_, refl, sym, ap, _∙_}
-use mathlib.Core.Bool.{true, false}
+use mathlib.Core.Path.{_≡_}
 use Prim.Native.Nat.{ℕ, zero, suc, _+_, _-_, _*_, _/_, _≤_, _<_}
 use native.Mathlib.Nat.{div-mul-le-self, lt-div-mul-add, div-lt-iff-lt-mul, add-mul, mul-assoc, mul-left-comm, mul-le-mul}
 use native.Mathlib.Omega.{arith}

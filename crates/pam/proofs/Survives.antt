@@ -1,6 +1,6 @@
 -- A picture that the check passes goes out into a file and in again unchanged, sides and bytes; and what was read passes the check.
 use mathlib.Core.Path.{_≡_, refl, sym, ap, ap₂, subst, _∙_}
-use mathlib.Core.List.{List, _++_}
+use mathlib.Core.List.{List}
 use Prim.Native.Nat.{ℕ, _+_, _≤_}
 use lib.ListN.{length, take, drop, length-append}
 use lib.Seq.{take-at, drop-append-seam, getD-drop}

@@ -2,7 +2,7 @@
 use mathlib.Core.Bool.{cond}
 use mathlib.Core.List.{List, [] as none, _∷_ as _then_, _++_}
 use Prim.Native.Char.{code}
-use Prim.Native.Nat.{ℕ, suc, _+_, _-_, _*_, _/_, _%_, _^_}
+use Prim.Native.Nat.{ℕ, suc, _+_, _-_, _/_, _%_, _^_}
 use Prim.Native.String.{String, [], _∷_}
 use lib.Dec.{ltb}
 use lib.ListN.{length, take, drop}

@@ -1,5 +1,4 @@
 -- The quotient by a power of ten, which is not 0, and its last digit, which is a byte with 48 more.
-use Prim.Native.Nat.{_^_, _<_}
 use native.Mathlib.Nat.{one-le-pow}
 use native.Mathlib.Omega.{arith}
 use borrow.Author.Needs.{needs}

@@ -1,5 +1,4 @@
 -- The words of the header, and the digits of both sides.
-use mathlib.Core.Path.{sym}
 use native.Mathlib.Omega.{arith}
 use borrow.Author.Needs.{needs}
 use Rattle.pam_format.proofs.Decimals.{digits-most, length-header}

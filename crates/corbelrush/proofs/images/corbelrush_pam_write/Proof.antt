@@ -1,6 +1,5 @@
 -- Each case of the entry's answer, behind the pointers.
 use mathlib.Core.Path.{_≡_, sym, ap, _∙_}
-use mathlib.Core.List.{List}
 use Prim.Native.Nat.{ℕ}
 use borrow.Author.Needs.{needs}
 use Rattle.picture.specs.Answer.{answered}

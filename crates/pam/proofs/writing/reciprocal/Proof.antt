@@ -1,5 +1,4 @@
 -- Each way out is one case of the definition.
-use native.Mathlib.Omega.{arith}
 use borrow.Author.Needs.{needs}
 use borrow.Author.Tests.{eq-eqb, ne-eqb}
 use Rattle.pam.specs.Straight.{reciprocal}
