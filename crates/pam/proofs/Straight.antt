@@ -27,6 +27,11 @@ unfolding outward
 outward-byte c zero l = omega arith
 outward-byte c (suc a) l = let pos : 0 < suc a = omega arith in rw (divided c a) (div-lt-iff-lt-mul {x = 255 * c + suc a / 2} pos .1 (omega arith))
 
+-- both ways, a channel of an opaque pixel is as it was
+pub premultiply-opaque : (c : ℕ) → premultiply c 255 ≡ c
+unfolding premultiply
+premultiply-opaque c = omega arith
+
 pub outward-opaque : (c : ℕ) → outward c 255 ≡ c
 unfolding outward
 outward-opaque c = omega arith

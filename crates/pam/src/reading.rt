@@ -35,10 +35,13 @@ pub enum Imported {
     Read(FullSize),
 }
 
-// A pixel with its channels multiplied by its alpha.
+// A pixel with its channels multiplied by its alpha; an opaque one is as it was.
 fn premultiply_pixel(p: Pixel) -> Pixel
     ensures { λ r. ⌜ r ≡ recolouredPixel premultiply p ⌝ }
 {
+    if p.a == 255 {
+        return p;
+    }
     Pixel {
         r: premultiply(p.r, p.a),
         g: premultiply(p.g, p.a),
