@@ -3,6 +3,7 @@ pub mod Reciprocals
 pub mod Straight
 pub mod Scanned
 pub mod Recolouring
+pub mod Blocks
 pub mod Imports
 pub mod Exports
 pub mod Channels

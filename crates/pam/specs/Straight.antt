@@ -1,8 +1,9 @@
 -- Straight channels in the testers' files, premultiplied ones in a picture.
 use mathlib.Core.Bool.{cond}
 use mathlib.Core.List.{List}
-use Prim.Native.Nat.{ℕ, _+_, _-_, _*_, _/_}
+use Prim.Native.Nat.{ℕ, _+_, _-_, _*_, _/_, _%_}
 use lib.Dec.{eqb}
+use lib.ListN.{getD}
 use Rattle.picture.specs.Build.{build}
 use Rattle.picture.specs.Planes.{chan, painted}
 use Rattle.picture.specs.declared.Pixel.{Pixel}
@@ -38,3 +39,11 @@ reciprocal a = cond (eqb a 0) 0 ((4294967296 + (a - 1)) / a)
 -- one for each alpha
 unfoldable pub reciprocals : List ℕ
 reciprocals = build 256 reciprocal
+
+-- byte j of a picture whose channels are made anew, of the bytes alone
+abbrev pub anewAt : (ℕ → ℕ → ℕ) → List ℕ → ℕ → ℕ
+anewAt f bytes j = recolouredChannel f (j % 4) (getD bytes (4 * (j / 4) + j % 4) 0) (getD bytes (4 * (j / 4) + 3) 0)
+
+-- what byte j is multiplied by inward: its pixel's alpha, and 255 where it is the alpha
+abbrev pub factorAt : List ℕ → ℕ → ℕ
+factorAt bytes j = cond (eqb (j % 4) 3) 255 (getD bytes (4 * (j / 4) + 3) 0)
