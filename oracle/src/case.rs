@@ -16,9 +16,11 @@ pub enum Entry {
     PlateStart,
     PlateAdd,
     PlateLabel,
+    PamRead,
+    PamWrite,
 }
 
-pub const ENTRIES: [Entry; 12] = [
+pub const ENTRIES: [Entry; 14] = [
     Entry::Blur,
     Entry::Shift,
     Entry::Shadow,
@@ -31,6 +33,8 @@ pub const ENTRIES: [Entry; 12] = [
     Entry::PlateStart,
     Entry::PlateAdd,
     Entry::PlateLabel,
+    Entry::PamRead,
+    Entry::PamWrite,
 ];
 
 /// The entries of the first release.
@@ -42,7 +46,7 @@ pub struct Case {
     pub entry: Entry,
     pub w: u32,
     pub h: u32,
-    /// The picture, the plate, or the buffer that a plate is written in.
+    /// The picture, the plate, or the buffer that one of them is written in.
     pub picture: Vec<u8>,
     /// The lengths of the work buffers.
     pub scratch: usize,
@@ -269,12 +273,16 @@ pub unsafe fn call(library: &Library, case: &Case, parts: Parts) -> (u32, [u64; 
         Entry::PlateStart => (library.plate_start)(p, p_len, unit, &mut far),
         Entry::PlateAdd => (library.plate_add)(p, p_len, used, o, o_len, w, h, unit, sheet, &mut far),
         Entry::PlateLabel => (library.plate_label)(p, p_len, x as u32, &mut wide, &mut page),
+        Entry::PamRead => (library.pam_read)(o, o_len, p, p_len, &mut wide, &mut high, &mut far),
+        Entry::PamWrite => (library.pam_write)(p, p_len, w, h, o, o_len, &mut far, &mut long),
     };
     let numbers = match case.entry {
         Entry::Check => [wide.into(), far, 0, 0],
         Entry::Spread | Entry::PlateStart | Entry::PlateAdd => [far, 0, 0, 0],
         Entry::PlatePicture => [wide.into(), high.into(), far, long],
         Entry::PlateLabel => [wide.into(), page.into(), 0, 0],
+        Entry::PamRead => [wide.into(), high.into(), far, 0],
+        Entry::PamWrite => [far, long, 0, 0],
         _ => [0; 4],
     };
     (answer, numbers)

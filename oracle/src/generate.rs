@@ -1,6 +1,7 @@
 //! The cases, group by group.
 use crate::case::{Case, Entry, ENTRIES};
 use crate::inputs::{self, NOT_FINITE, NO_SHARE, OFFSETS};
+use crate::pam_cases;
 use crate::plate_cases;
 use crate::random::Random;
 use rule::{LARGEST_SIDE, MOST_DECIMATIONS, MOST_TAPS};
@@ -42,6 +43,7 @@ pub fn all(amount: Amount, take: Take) {
     samples(&mut random, take);
     for _ in 0..amount.of(1, 10) {
         plate_cases::all(&mut random, take);
+        pam_cases::all(&mut random, take);
     }
     for _ in 0..amount.of(30_000, 900_000) {
         take(any(&mut random));
@@ -221,6 +223,8 @@ pub fn numbers(entry: Entry) -> &'static [u32] {
         Entry::PlateStart => &[10, 13],
         Entry::PlateAdd => &[10, 1, 2, 13],
         Entry::PlateLabel => &[10, 12],
+        Entry::PamRead => &[15, 3],
+        Entry::PamWrite => &[1, 2, 16, 3],
     }
 }
 
@@ -245,6 +249,7 @@ fn bad_length(random: &mut Random, case: &mut Case) {
 
 fn short_work(random: &mut Random, case: &mut Case) {
     let needed = match case.entry {
+        Entry::PamRead | Entry::PamWrite => return pam_cases::spoil_room(random, case),
         Entry::PlateJob => {
             let bodies = rule::plate::pictures(&case.picture).unwrap_or_default();
             bodies.iter().map(|p| p.length as usize).max().unwrap_or(0)
@@ -298,14 +303,18 @@ fn spoil(random: &mut Random, case: &mut Case, number: u32) {
         9 => case.edge = random.pick(&[4, 5, 255, u32::MAX]),
         10 => bad_plate(random, case),
         13 => plate_cases::spoil_room(random, case),
+        15 => pam_cases::spoil_file(random, case),
+        16 => pam_cases::spoil_pixel(random, case),
         _ => case.x = random.pick(&[64, 65, i32::MIN, -1]),
     }
 }
 
 /// A case of an entry that is accepted.
 pub fn accepted(random: &mut Random, entry: Entry) -> Case {
-    if matches!(entry, Entry::PlateStart | Entry::PlateAdd | Entry::PlateLabel) {
-        return plate_cases::accepted(random, entry);
+    match entry {
+        Entry::PlateStart | Entry::PlateAdd | Entry::PlateLabel => return plate_cases::accepted(random, entry),
+        Entry::PamRead | Entry::PamWrite => return pam_cases::accepted(random, entry),
+        _ => (),
     }
     let (w, h) = (random.range(1, 6) as u32, random.range(1, 6) as u32);
     let (n, edge) = (random.below(13) as u32, random.below(4) as u32);

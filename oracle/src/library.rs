@@ -1,5 +1,5 @@
 //! The C functions as a table, filled by the linked library or by the rules.
-use rule::{blur, grading, plate, plate_write, shadow, shift};
+use rule::{blur, grading, pam, plate, plate_write, shadow, shift};
 use std::slice;
 
 pub struct Library {
@@ -16,6 +16,8 @@ pub struct Library {
     pub plate_start: PlateStart,
     pub plate_add: PlateAdd,
     pub plate_label: PlateLabel,
+    pub pam_read: PamRead,
+    pub pam_write: PamWrite,
 }
 
 /// The types of the C functions, and the library's own ones where it is linked.
@@ -61,6 +63,14 @@ functions! {
     PlateLabel corbelrush_plate_label(
         plate: *const u8, plate_len: usize, index: u32, unit: *mut u32, sheet: *mut u16
     );
+    PamRead corbelrush_pam_read(
+        file: *const u8, file_len: usize, picture: *mut u8, picture_len: usize, w: *mut u32, h: *mut u32,
+        written: *mut u64
+    );
+    PamWrite corbelrush_pam_write(
+        picture: *const u8, picture_len: usize, w: u32, h: u32, file: *mut u8, file_len: usize, written: *mut u64,
+        place: *mut u64
+    );
 }
 
 /// The library under test: the linked one, else the rules.
@@ -86,6 +96,8 @@ static LINKED: Library = Library {
     plate_start: corbelrush_plate_start,
     plate_add: corbelrush_plate_add,
     plate_label: corbelrush_plate_label,
+    pam_read: corbelrush_pam_read,
+    pam_write: corbelrush_pam_write,
 };
 
 pub static RULE: Library = Library {
@@ -102,6 +114,8 @@ pub static RULE: Library = Library {
     plate_start: rule_plate_start,
     plate_add: rule_plate_add,
     plate_label: rule_plate_label,
+    pam_read: rule_pam_read,
+    pam_write: rule_pam_write,
 };
 
 // SAFETY of all below: the caller lends each buffer for the call, with its length, and no two overlap.
@@ -266,5 +280,34 @@ unsafe extern "C" fn rule_plate_label(
 ) -> u32 {
     let number;
     (number, *unit, *sheet) = plate::label(read(plate, plate_len), index);
+    number
+}
+
+unsafe extern "C" fn rule_pam_read(
+    file: *const u8,
+    file_len: usize,
+    picture: *mut u8,
+    picture_len: usize,
+    w: *mut u32,
+    h: *mut u32,
+    length: *mut u64,
+) -> u32 {
+    let number;
+    (number, *w, *h, *length) = pam::read(read(file, file_len), written(picture, picture_len));
+    number
+}
+
+unsafe extern "C" fn rule_pam_write(
+    picture: *const u8,
+    picture_len: usize,
+    w: u32,
+    h: u32,
+    file: *mut u8,
+    file_len: usize,
+    length: *mut u64,
+    place: *mut u64,
+) -> u32 {
+    let number;
+    (number, *length, *place) = pam::write(read(picture, picture_len), w, h, written(file, file_len));
     number
 }

@@ -1,5 +1,5 @@
 //! The smallest input that still shows something, by greedy steps.
-use crate::case::Case;
+use crate::case::{Case, Entry};
 
 /// The picture without one column.
 fn without_column(case: &Case, gone: u32) -> Case {
@@ -26,7 +26,7 @@ fn fitted(case: Case) -> Case {
 fn sizes(case: &Case) -> Vec<Case> {
     let mut simpler = vec![fitted(case.clone())];
     let whole = case.picture.len() as u128 == rule::refusal::bytes(case.w, case.h);
-    if whole && !case.is_plate() {
+    if whole && !case.is_plate() && case.entry != Entry::PamRead {
         // the halves first, so that a large picture shrinks soon
         for (keep_w, keep_h) in [(case.w / 2, case.h), (case.w, case.h / 2)] {
             if keep_w > 0 && keep_h > 0 {
@@ -148,7 +148,7 @@ fn later(case: &Case) -> Vec<Case> {
     simpler.push(Case { used: case.used / 2, ..case.clone() });
     simpler.push(Case { unit: case.unit / 2, ..case.clone() });
     simpler.push(Case { sheet: case.sheet / 2, ..case.clone() });
-    if case.is_plate() {
+    if case.is_plate() || case.entry == Entry::PamRead {
         let length = case.picture.len().saturating_sub(1);
         simpler.push(Case { picture: case.picture[..length].to_vec(), ..case.clone() });
     }

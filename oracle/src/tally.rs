@@ -55,7 +55,7 @@ impl Tally {
         if seen.classes.contains(&Class::Flooring) {
             self.add(flooring(case.composite != 0), entry);
         }
-        if !case.is_plate() && entry != Entry::Spread {
+        if !case.is_plate() && !matches!(entry, Entry::Spread | Entry::PamRead) {
             self.add(format!("size {}", band(case)), entry);
         }
         if answer == 0 && (case.blurs() || entry == Entry::Sample) {

@@ -4,6 +4,7 @@ use crate::compare::Examiner;
 use crate::generate;
 use crate::inputs;
 use crate::library::{Library, RULE};
+use crate::pam_cases;
 use crate::plate_cases;
 use crate::random::Random;
 
@@ -192,6 +193,7 @@ fn coloured() -> Vec<Case> {
 pub fn cases() -> Vec<Case> {
     let mut cases = first_cases();
     let mut later = plate_cases::stored(&mut Random::new(10));
+    later.extend(pam_cases::stored(&mut Random::new(12)));
     generate::refusals(&mut Random::new(11), &ENTRIES[9..], 1, 2, &mut |case| later.push(case));
     cases.extend(later.into_iter().filter(is_short));
     cases

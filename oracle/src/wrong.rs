@@ -6,6 +6,7 @@ use crate::library::RULE;
 use crate::random::Random;
 use crate::vectors;
 
+mod pams;
 mod plates;
 
 /// What is wrong, and what the program does.
