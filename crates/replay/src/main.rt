@@ -119,10 +119,16 @@ fn report_plates(input: &[u8]) {
     print_count(b"plate label", count(input, 12));
 }
 
+fn report_images(input: &[u8]) {
+    print_count(b"image read", count(input, 13));
+    print_count(b"image written", count(input, 14));
+}
+
 fn report(input: &[u8]) {
     report_filters(input);
     report_grades(input);
     report_plates(input);
+    report_images(input);
     print_totals(count(input, 0));
 }
 

@@ -1,4 +1,5 @@
-// The function that is lent two buffers with content: a plate and a picture for it.
+// The functions that are lent two buffers with content: a plate and a picture for it, or a picture and its file.
+use corbelrush::images;
 use corbelrush::plates;
 use vector_parts::buffers;
 use vector_parts::parts;
@@ -23,6 +24,37 @@ fn plate_add(v: &[u64], buffer: &mut [u8], picture: &[u8]) -> Reply {
     replies::two(number, after, 0)
 }
 
+fn pam_read(picture: &mut [u8], file: &[u8]) -> Reply {
+    let mut w = UNSET;
+    let mut h = UNSET;
+    let mut written = UNSET as u64;
+    let number = images::corbelrush_pam_read(file, picture, &mut w, &mut h, &mut written);
+    Reply {
+        number,
+        first: w as u64,
+        second: h as u64,
+        third: written,
+        fourth: 0,
+    }
+}
+
+fn pam_write(v: &[u64], picture: &[u8], file: &mut [u8]) -> Reply {
+    let mut written = UNSET as u64;
+    let mut place = UNSET as u64;
+    let w = head::word(v, 1);
+    let h = head::word(v, 2);
+    let number = images::corbelrush_pam_write(picture, w, h, file, &mut written, &mut place);
+    replies::two(number, written, place)
+}
+
+fn call(v: &[u64], bytes: &mut [u8], other: &mut [u8]) -> Reply {
+    match head::number(v, 0) {
+        11 => plate_add(v, bytes, other),
+        13 => pam_read(bytes, other),
+        _ => pam_write(v, bytes, other),
+    }
+}
+
 // Whether the reply and both buffers are as the vector says.
 fn left(v: &[u64], r: Reply, bytes: &[u8; LONGEST], other: &[u8; LONGEST]) -> bool {
     if !replies::stored(v, r) {
@@ -34,7 +66,7 @@ fn left(v: &[u64], r: Reply, bytes: &[u8; LONGEST], other: &[u8; LONGEST]) -> bo
     buffers::bytes_left(v, parts::other(v), other)
 }
 
-// Whether the call does what the vector says. It takes no list, and no sheet past 16 bits.
+// Whether the call does what the vector says. No call takes a list, nor a sheet past 16 bits.
 pub fn agrees(v: &[u64]) -> bool {
     if !replies::idle(v) {
         return false;
@@ -49,9 +81,9 @@ pub fn agrees(v: &[u64]) -> bool {
     let first = parts::bytes(v);
     let second = parts::other(v);
     let mut bytes = buffers::bytes(v, first);
-    let other = buffers::bytes(v, second);
+    let mut other = buffers::bytes(v, second);
     let n = first.count;
     let m = second.count;
-    let r = plate_add(v, &mut bytes[0..n], &other[0..m]);
+    let r = call(v, &mut bytes[0..n], &mut other[0..m]);
     left(v, r, &bytes, &other)
 }

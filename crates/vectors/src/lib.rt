@@ -14,7 +14,7 @@ pub fn agrees(v: &[u64]) -> bool {
         1 | 3 | 9 => vector_filters::agrees(v),
         2 | 4..=6 | 8 | 10 | 12 => vector_pictures::agrees(v),
         7 => kernels::agrees(v),
-        11 => vector_files::agrees(v),
+        11 | 13 | 14 => vector_files::agrees(v),
         _ => false,
     }
 }
