@@ -1,0 +1,8 @@
+-- Laws of mending and rebuilding.
+pub mod Counted
+pub mod Packed
+pub mod Lowered
+pub mod Listed
+pub mod Passing
+pub mod Rising
+pub mod Restores

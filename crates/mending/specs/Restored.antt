@@ -1,0 +1,29 @@
+-- What rebuilding makes of a mended picture and the list of its changes.
+use mathlib.Core.Bool.{Bool, true, _&&_}
+use mathlib.Core.List.{List, [], _∷_}
+use Prim.Native.Nat.{ℕ, suc, _/_, _%_}
+use lib.Dec.{ltb, leb}
+use lib.ListN.{getD}
+use Rattle.picture.specs.declared.Pixel.{Pixel}
+use Rattle.pixels.specs.Pixels.{withPixel}
+
+-- an entry's place, and its old pixel in one number
+abbrev pub placeOf : List ℕ → ℕ
+placeOf entry = getD entry 0 0
+
+abbrev pub oldOf : List ℕ → ℕ
+oldOf entry = getD entry 1 0
+
+-- the pixel in one number: r | g<<8 | b<<16 | a<<24
+abbrev pub unpacked : ℕ → Pixel
+unpacked n = record { r = n % 256; g = n / 256 % 256; b = n / 65536 % 256; a = n / 16777216 % 256 }
+
+-- each old pixel back in its place
+unfoldable pub restored : List (List ℕ) → List ℕ → List ℕ
+restored [] bytes = bytes
+restored (e ∷ es) bytes = restored es (withPixel bytes (placeOf e) (unpacked (oldOf e)))
+
+-- the places are in strictly rising order from `next` on, and below the area
+unfoldable pub rising : ℕ → ℕ → List (List ℕ) → Bool
+rising next area [] = true
+rising next area (e ∷ es) = leb next (placeOf e) && (ltb (placeOf e) area && rising (suc (placeOf e)) area es)
