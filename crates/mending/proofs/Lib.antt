@@ -6,3 +6,6 @@ pub mod Listed
 pub mod Passing
 pub mod Rising
 pub mod Restores
+pub mod Accepted
+pub mod Determined
+pub mod Promised

@@ -1,14 +1,18 @@
 -- Laws of places in strictly rising order.
 use mathlib.Core.Path.{_≡_, refl, sym}
-use mathlib.Core.Bool.{Bool, true, false, _&&_, true≢false}
-use mathlib.Core.List.{List, [], _∷_}
+use mathlib.Core.Bool.{Bool, true, false, cond, _&&_, true≢false}
+use mathlib.Core.List.{List, [], _∷_, _++_, append-nil}
 use Prim.Native.Nat.{ℕ, zero, suc, _+_, _≤_, _<_}
 use native.Mathlib.Numerals.{add-one}
 use native.Mathlib.Omega.{arith}
-use borrow.Author.Tests.{ltb-true, leb-true}
+use borrow.Author.Tests.{ltb-true, leb-true, le-leb, lt-ltb}
 use lib.Dec.{ltb, leb}
 use lib.ListN.{length, getD, drop}
 use lib.Seq.{drop-cons}
+use Rattle.picture.specs.declared.Pixel.{Pixel}
+use Rattle.pixels.specs.Pixels.{pixelAt}
+use Rattle.pixels.specs.Channels.{exceedsAt}
+use Rattle.mending.specs.Changes.{change, changesBelow}
 use Rattle.mending.specs.Restored.{placeOf, rising}
 
 -- two tests that both hold
@@ -36,3 +40,29 @@ pub rising-inside : (next area : ℕ) (list : List (List ℕ)) → rising next a
 rising-inside next area [] h i l = absurd (omega arith)
 rising-inside next area (e ∷ es) h zero l = rising-first next area e es h .1
 rising-inside next area (e ∷ es) h (suc i) l = rising-inside (suc (placeOf e)) area es (rising-first next area e es h .2) i (omega arith)
+
+-- a larger area
+rising-wider : (next m n : ℕ) (list : List (List ℕ)) → m ≤ n → rising next m list ≡ true → rising next n list ≡ true
+unfolding rising
+rising-wider next m n [] l h = refl
+rising-wider next m n (e ∷ es) l h =
+    let first = rising-first next m e es h in
+    rw (le-leb _ _ (first .0), lt-ltb (placeOf e) n (omega arith)) (rising-wider (suc (placeOf e)) m n es l (first .2))
+
+-- one place more, after all that are below it
+rising-more : (next n : ℕ) (list : List (List ℕ)) (q : Pixel) → next ≤ n → rising next n list ≡ true → rising next (suc n) (list ++ (change n q ∷ [])) ≡ true
+unfolding rising
+rising-more next n [] q l h = rw (le-leb next n l, lt-ltb n (suc n) (omega arith))
+rising-more next n (e ∷ es) q l h =
+    let first = rising-first next n e es h in
+    rw (le-leb _ _ (first .0), lt-ltb (placeOf e) (suc n) (omega arith)) (rising-more (suc (placeOf e)) n es q (omega arith) (first .2))
+
+-- the changes are listed in rising order
+pub changes-rise : (p : List ℕ) (n : ℕ) → rising 0 n (changesBelow p n) ≡ true
+unfolding rising changesBelow
+changes-rise p zero = refl
+changes-rise p (suc n) = by-test (exceedsAt p n) (changes-rise p n)
+  where
+    by-test : (b : Bool) → rising 0 n (changesBelow p n) ≡ true → rising 0 (suc n) (changesBelow p n ++ cond b (change n (pixelAt p n) ∷ []) []) ≡ true
+    by-test true h = rising-more 0 n (changesBelow p n) (pixelAt p n) (omega arith) h
+    by-test false h = rw append-nil (rising-wider 0 n (suc n) (changesBelow p n) (omega arith) h)
