@@ -2,4 +2,5 @@
 pub mod filters;
 pub mod grades;
 pub mod images;
+pub mod mends;
 pub mod plates;
