@@ -17,7 +17,7 @@
  *
  * What C cannot check, and the caller sees to:
  *   - A buffer has as many bytes (weights: floats, each aligned) as the length beside it says. One of length 0 is not
- *     touched, and its pointer may be null.
+ *     touched, and its pointer may be null. A list is aligned, and has as many entries as the number beside it says.
  *   - No two buffers or numbers of one call overlap, unless the function only reads both.
  *   - The pointers through which numbers are answered are not null.
  *   - The floating-point environment is the one that a program starts with: rounding to nearest, no flushing to zero.
@@ -51,7 +51,9 @@ enum {
     CORBELRUSH_NO_PICTURE = 12,   /* the plate has no picture of that index */
     CORBELRUSH_NO_ROOM = 13,      /* the plate would pass 64 pictures, 16384 bytes or its buffer */
     CORBELRUSH_NO_PAM = 15,       /* the file is no PAM file as corbelrush_pam_write writes it, or its length does not fit */
-    CORBELRUSH_EXCEEDS = 16       /* a channel exceeds its alpha */
+    CORBELRUSH_EXCEEDS = 16,      /* a channel exceeds its alpha */
+    CORBELRUSH_LIST_FULL = 17,    /* the list has room for fewer entries than there are */
+    CORBELRUSH_WRONG_LIST = 18    /* a place of the list lies outside the picture, or is not above the one before it */
 };
 
 /* What a picture is beyond its borders. */
@@ -111,6 +113,33 @@ uint32_t corbelrush_shadow(uint8_t *picture, size_t picture_len, uint32_t w, uin
  */
 uint32_t corbelrush_check(const uint8_t *picture, size_t picture_len, uint32_t w, uint32_t h, uint32_t *found,
                           uint64_t *place);
+
+/* An entry of a list of changes: a place y * w + x, and the pixel that stood there, r | g << 8 | b << 16 | a << 24. */
+typedef struct {
+    uint32_t place, pixel;
+} corbelrush_change;
+
+/*
+ * Mends a picture: each r, g or b above its alpha is lowered to that alpha, and no other byte changes. The place and the
+ * old pixel of each pixel changed go into the list, in the order of their places, and *count is how many there are: the
+ * number of pixels that corbelrush_check would object to. Room for w * h entries is always enough, and a picture that is
+ * mended already needs none.
+ *
+ * Refusals: 1, 2, 17 (room below the number of such pixels); *count is 0, and no entry has changed.
+ * Done: picture is mended, the first *count entries of list are the changes, the rest of it is as it was.
+ */
+uint32_t corbelrush_mend(uint8_t *picture, size_t picture_len, uint32_t w, uint32_t h, corbelrush_change *list,
+                         size_t room, uint64_t *count);
+
+/*
+ * Puts the old pixels of a list of changes back, each into its place: from a mended picture and the first *count entries
+ * of its list, the picture as it was before corbelrush_mend. Any pixels are taken, and a list of no entries too.
+ *
+ * Refusals: 1, 2, 18 (a place is w * h or above, or not above the place before it).
+ * Done: picture is rebuilt. The list is only read.
+ */
+uint32_t corbelrush_rebuild(uint8_t *picture, size_t picture_len, uint32_t w, uint32_t h,
+                            const corbelrush_change *list, size_t count);
 
 /*
  * The number that a view of a picture gets: 0 where corbelrush_sample reads it.
