@@ -2,7 +2,7 @@
 use mending::mender::Mended;
 ghost use mathlib.Core.Path.{_≡_};
 ghost use Rattle.picture.specs.Answer.{answered};
-ghost use Rattle.mending.specs.Outcome.{mending, mendOutcome, rebuildOutcome};
+ghost use Rattle.mending.specs.Outcome.{mendLeft, mendOutcome, rebuildOutcome};
 
 // Mends a picture of w by h pixels, as `mend` does: the count goes through the pointer.
 #[no_mangle]
@@ -13,7 +13,7 @@ pub extern "C" fn corbelrush_mend(
     list: &mut [[u32; 2]],
     count: &mut u64,
 ) -> u32
-    ensures { λ r. ⌜ answered r (mending (now (picture .exit)) (now (list .exit)) (now (count .exit))) ≡ mendOutcome (now (picture .entry)) w h (now (list .entry)) ⌝ }
+    ensures { λ r. ⌜ answered r (mendLeft (now (picture .exit)) (now (list .exit)) (now (count .exit))) ≡ mendOutcome (now (picture .entry)) w h (now (list .entry)) ⌝ }
 {
     *count = 0;
     match mending::mender::mend(picture, w, h, list) {

@@ -17,7 +17,7 @@ use Rattle.picture.proofs.Passed.{passed}
 use Rattle.picture.proofs.Settled.{read}
 use Rattle.grading.specs.Premultiplied.{none, checked}
 use Rattle.mending.specs.Changes.{mended, changesBelow, laidEntries}
-use Rattle.mending.specs.Outcome.{Mending, mending, failing, mendDone, mendOutcome, wrongList, rebuildOutcome}
+use Rattle.mending.specs.Outcome.{MendLeft, mendLeft, failing, mendDone, mendOutcome, wrongList, rebuildOutcome}
 use Rattle.mending.proofs.Lowered.{length-mended}
 use Rattle.mending.proofs.Listed.{as-many}
 use Rattle.mending.proofs.Packed.{Bytes}
@@ -26,12 +26,12 @@ use Rattle.mending.proofs.Rising.{changes-rise}
 use Rattle.mending.proofs.Restores.{old-back}
 
 -- the call's picture, sides and list; what it left, and its count
-pub record MendAccepted (p : List ℕ) (w h : ℕ) (list : List (List ℕ)) (left : Mending) : Type 0 where
+pub record MendAccepted (p : List ℕ) (w h : ℕ) (list : List (List ℕ)) (left : MendLeft) : Type 0 where
   pub sides : wrongSides w h ≡ false
   pub exact : length p ≡ bytesOf w h
   pub done : left ≡ mendDone p w h list
 
-pub mend-accepted : (p : List ℕ) (w h : ℕ) (list : List (List ℕ)) (left : Mending) → answered 0 left ≡ mendOutcome p w h list → MendAccepted p w h list left
+pub mend-accepted : (p : List ℕ) (w h : ℕ) (list : List (List ℕ)) (left : MendLeft) → answered 0 left ≡ mendOutcome p w h list → MendAccepted p w h list left
 unfolding mendOutcome
 mend-accepted p w h list left e =
     let zero = read _ _ _ 0 left e .number in
@@ -39,13 +39,13 @@ mend-accepted p w h list left e =
     let two = passed _ _ (lit< tt) (one .1) in
     record { sides = one .0; exact = right-length (length p) w h .0 (two .0); done = accepted _ _ _ left e }
 
-module _ {p : List ℕ} {w h : ℕ} {list : List (List ℕ)} {left : Mending} (a : MendAccepted p w h list left) where
+module _ {p : List ℕ} {w h : ℕ} {list : List (List ℕ)} {left : MendLeft} (a : MendAccepted p w h list left) where
   -- the mended picture passes checks 1 and 2
   still-right : wrongLength (length (mended w h p)) w h ≡ false
   still-right = right-length (length (mended w h p)) w h .1 (length-mended w h p)
 
   -- mended again: nothing is counted, listed or changed, whatever the list
-  pub again : (other : List (List ℕ)) → mendOutcome (left .picture) w h other ≡ answered 0 (mending (left .picture) other 0)
+  pub again : (other : List (List ℕ)) → mendOutcome (left .picture) w h other ≡ answered 0 (mendLeft (left .picture) other 0)
   unfolding mendOutcome settled firstOf firstElse
   again other =
       let roomy : ltb (length other) (failing (mended w h p) w h) ≡ false = rw (none-failing w h p) (le-ltb (length other) 0 (omega arith)) in

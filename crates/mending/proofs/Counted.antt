@@ -1,5 +1,5 @@
 -- Laws of how many places a test holds at.
-use mathlib.Core.Path.{_≡_, refl, sym, ap₂, _∙_}
+use mathlib.Core.Path.{_≡_, refl}
 use mathlib.Core.Bool.{Bool, true, false, cond}
 use mathlib.Core.Logic.{⊎-elim}
 use Prim.Native.Nat.{ℕ, zero, suc, _+_, _≤_, _<_}
@@ -27,7 +27,7 @@ many-more test n = rw add-one
 -- places beyond the first i, counted from there
 pub many-split : (test : ℕ → Bool) (i m : ℕ) → howMany test (i + m) ≡ howMany test i + howMany (λ k. test (i + k)) m
 unfolding howMany
-many-split test i zero = rw (add-zero, add-zero)
+many-split test i zero = rw (add-zero i, add-zero (howMany test i))
 many-split test i (suc m) =
     let e : i + suc m ≡ suc (i + m) = omega arith in
     rw (e, many-split test i m) (omega arith)

@@ -8,8 +8,8 @@ use contract.Lifetimes.{Lfts}
 use borrow.Fn.Kinds.{Dens, endedOf}
 use denote.Triple.Clauses.{AtExit}
 use denote.Ref.{now}
-use Rattle.picture.specs.Answer.{Answer, answered}
-use Rattle.mending.specs.Outcome.{Mending, mendAnswer}
+use Rattle.picture.specs.Answer.{Answer}
+use Rattle.mending.specs.Outcome.{MendLeft, mendAnswer}
 use Rattle.mending.specs.declared.mender.Mended.{Mended}
 use Rattle.mending.specs.declared.mender.Mended.the-variants.{Refused, Count}
 use Rattle.mending.specs.declared.mender.MendRefusal.the-variants.{WrongSides, WrongLength, ListFull}
@@ -19,7 +19,7 @@ use Rattle.mending.proofs.rebuilder.rebuild.Reads as rebuild
 use Rattle.mending.proofs.rebuilder.rebuild.Kinds as rebuild-kinds
 
 -- an answer can be read back from its number and count
-abbrev mend-back : Answer Mending → Mended
+abbrev mend-back : Answer MendLeft → Mended
 mend-back a =
     cond (eqb (a .number) 0) (Count (a .left .count))
     (cond (eqb (a .number) 1) (Refused WrongSides) (cond (eqb (a .number) 2) (Refused WrongLength) (Refused ListFull)))
@@ -40,8 +40,8 @@ mend-once r₁ r₂ p₁ p₂ l₁ l₂ e =
     let first = left-as r₁ p₁ l₁ in
     let second = left-as r₂ p₂ l₂ in (
       sym (mend-undone r₁ p₁ l₁) ∙ ap mend-back e ∙ mend-undone r₂ p₂ l₂,
-      sym (first .0) ∙ ap (λ (a : Answer Mending). a .left .picture) e ∙ second .0,
-      sym (first .1) ∙ ap (λ (a : Answer Mending). a .left .list) e ∙ second .1,
+      sym (first .0) ∙ ap (λ (a : Answer MendLeft). a .left .picture) e ∙ second .0,
+      sym (first .1) ∙ ap (λ (a : Answer MendLeft). a .left .list) e ∙ second .1,
     )
 
 pub mend-determined : (κs : Lfts 2) (a : Dens κs mend-kinds.ps) (r₁ r₂ : Mended) (x₁ x₂ : AtExit (endedOf 2 mend-kinds.ps mend-kinds.r) κs) →

@@ -5,6 +5,7 @@ pub mod Lowered
 pub mod Listed
 pub mod Passing
 pub mod Rising
+pub mod Conditions
 pub mod Restores
 pub mod Accepted
 pub mod Determined

@@ -12,7 +12,7 @@ use Rattle.pixels.specs.Channels.{exceeds, exceedsAt}
 use Rattle.pixels.proofs.Painting.{Painting, begins, turn}
 use Rattle.grading.specs.Premultiplied.{none, firstFrom, scanned}
 use Rattle.mending.specs.Changes.{lowered, mended, howMany, changesBelow, laidEntries}
-use Rattle.mending.specs.Outcome.{mending, failing, mendDone}
+use Rattle.mending.specs.Outcome.{mendLeft, failing, mendDone}
 use Rattle.mending.proofs.Counted.{many-none, none-many}
 use Rattle.mending.proofs.Lowered.{kept, passes, same-pixel, loweredAt, lowered-is, mended-is, mended-pixel}
 use Rattle.mending.proofs.Listed.{as-many}
@@ -41,7 +41,7 @@ none-listed p n z = empty (changesBelow p n) (as-many p n ∙ z)
     empty (x ∷ xs) e = absurd (omega arith)
 
 -- where the count is 0, all that mending leaves is there already
-pub nothing-failing : (p : List ℕ) (w h : ℕ) (list : List (List ℕ)) → length p ≡ bytesOf w h → failing p w h ≡ 0 → mending p list 0 ≡ mendDone p w h list
+pub nothing-failing : (p : List ℕ) (w h : ℕ) (list : List (List ℕ)) → length p ≡ bytesOf w h → failing p w h ≡ 0 → mendLeft p list 0 ≡ mendDone p w h list
 unfolding laidEntries
 nothing-failing p w h list exact z =
     rw (← mended-still w h p exact (none-many (exceedsAt p) (w * h) z), none-listed p (w * h) z, z)

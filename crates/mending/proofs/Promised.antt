@@ -1,5 +1,5 @@
 -- What request 08 asks, of the contracts of `mend` and `rebuild` and of the check's, call after call.
-use mathlib.Core.Path.{_≡_, sym, ap, _∙_, subst}
+use mathlib.Core.Path.{_≡_, sym, ap, _∙_}
 use mathlib.Core.List.{List}
 use Prim.Native.Nat.{ℕ, _*_, _≤_, _<_}
 use native.Mathlib.Nat.{min-eq-left, min-eq-right}
@@ -21,7 +21,7 @@ use Rattle.grading.proofs.Injective.{finding-injective}
 use Rattle.grading.proofs.premultiplied.check.Reads as check
 use Rattle.grading.proofs.premultiplied.check.Kinds as check-kinds
 use Rattle.mending.specs.Changes.{howMany}
-use Rattle.mending.specs.Outcome.{Mending, mending, mendAnswer, mendOutcome, rebuildOutcome}
+use Rattle.mending.specs.Outcome.{MendLeft, mendLeft}
 use Rattle.mending.specs.declared.mender.Mended.{Mended}
 use Rattle.mending.specs.declared.mender.Mended.the-variants.{Count}
 use Rattle.mending.proofs.Lowered.{mended-at, length-mended}
@@ -62,12 +62,12 @@ picture m = now (m .left .0)
 abbrev pub changes : MendCall → List (List ℕ)
 changes m = now (m .left .1 .1 .1 .0)
 
-done : (m : MendCall) → MendAccepted (given m) (width m) (height m) (list m) (mending (picture m) (changes m) (m .count))
-done m = mend-accepted (given m) (width m) (height m) (list m) (mending (picture m) (changes m) (m .count)) (m .meets)
+done : (m : MendCall) → MendAccepted (given m) (width m) (height m) (list m) (mendLeft (picture m) (changes m) (m .count))
+done m = mend-accepted (given m) (width m) (height m) (list m) (mendLeft (picture m) (changes m) (m .count)) (m .meets)
 
 -- the count is the number of places whose pixel fails the check
 pub counts : (m : MendCall) → m .count ≡ howMany (exceedsAt (given m)) (width m * height m)
-counts m = ap (λ (l : Mending). l .count) (done m .done)
+counts m = ap (λ (l : MendLeft). l .count) (done m .done)
 
 -- no byte has come or gone; channel c of pixel k is as it was where it is not above alpha, and alpha where it is
 pub record OnlyLowered (m : MendCall) : Type 0 where
@@ -77,7 +77,7 @@ pub record OnlyLowered (m : MendCall) : Type 0 where
 
 pub only-lowered : (m : MendCall) → OnlyLowered m
 only-lowered m =
-    let is = ap (λ (l : Mending). l .picture) (done m .done) in
+    let is = ap (λ (l : MendLeft). l .picture) (done m .done) in
     let w = width m in
     let h = height m in
     record {

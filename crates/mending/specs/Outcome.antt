@@ -15,13 +15,13 @@ use Rattle.mending.specs.declared.mender.Mended.{Mended}
 use Rattle.mending.specs.declared.mender.Mended.the-variants.{Refused, Count}
 
 -- what `mend` leaves: the lent picture and the lent list, and the count that it answers
-pub record Mending : Type 0 where
+pub record MendLeft : Type 0 where
   pub picture : List ℕ
   pub list : List (List ℕ)
   pub count : ℕ
 
-abbrev pub mending : List ℕ → List (List ℕ) → ℕ → Mending
-mending picture list count = record { picture = picture; list = list; count = count }
+abbrev pub mendLeft : List ℕ → List (List ℕ) → ℕ → MendLeft
+mendLeft picture list count = record { picture = picture; list = list; count = count }
 
 -- the number of each refusal of `mend`
 abbrev pub mendNumber : MendRefusal → ℕ
@@ -30,9 +30,9 @@ mendNumber WrongLength = 2
 mendNumber ListFull = 17
 
 -- the number and the count of each case of the answer, with what is left; a refused count is 0
-abbrev pub mendAnswer : Mended → List ℕ → List (List ℕ) → Answer Mending
-mendAnswer (Refused r) picture list = answered (mendNumber r) (mending picture list 0)
-mendAnswer (Count n) picture list = answered 0 (mending picture list n)
+abbrev pub mendAnswer : Mended → List ℕ → List (List ℕ) → Answer MendLeft
+mendAnswer (Refused r) picture list = answered (mendNumber r) (mendLeft picture list 0)
+mendAnswer (Count n) picture list = answered 0 (mendLeft picture list n)
 
 -- the count: how many pixels of the input fail the check
 abbrev pub failing : List ℕ → ℕ → ℕ → ℕ
@@ -47,12 +47,12 @@ abbrev pub mendChecks : List ℕ → ℕ → ℕ → ℕ → List Check
 mendChecks p w h room = pictureChecks (length p) w h ++ roomChecks p w h room
 
 -- the picture mended, the changes first in the list, and their count
-abbrev pub mendDone : List ℕ → ℕ → ℕ → List (List ℕ) → Mending
-mendDone p w h list = mending (mended w h p) (laidEntries (changesBelow p (w * h)) list) (failing p w h)
+abbrev pub mendDone : List ℕ → ℕ → ℕ → List (List ℕ) → MendLeft
+mendDone p w h list = mendLeft (mended w h p) (laidEntries (changesBelow p (w * h)) list) (failing p w h)
 
 -- the first refusal; or mended
-unfoldable pub mendOutcome : List ℕ → ℕ → ℕ → List (List ℕ) → Answer Mending
-mendOutcome p w h list = settled (firstOf (mendChecks p w h (length list))) (mending p list 0) (mendDone p w h list)
+unfoldable pub mendOutcome : List ℕ → ℕ → ℕ → List (List ℕ) → Answer MendLeft
+mendOutcome p w h list = settled (firstOf (mendChecks p w h (length list))) (mendLeft p list 0) (mendDone p w h list)
 
 -- 18: a place lies outside the picture, or is not above the one before it
 unfoldable pub wrongList : List (List ℕ) → ℕ → Bool

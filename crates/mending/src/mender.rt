@@ -15,7 +15,7 @@ ghost use Rattle.picture.specs.Sizes.{Pictured};
 ghost use Rattle.pixels.specs.Pixels.{pixelAt, withPixel};
 ghost use Rattle.pixels.specs.Channels.{exceedsAt};
 ghost use Rattle.mending.specs.Changes.{mended, lowered, howMany, change, changesBelow, laidEntries};
-ghost use Rattle.mending.specs.Outcome.{mending, mendNumber, mendAnswer, roomChecks, mendDone, mendOutcome};
+ghost use Rattle.mending.specs.Outcome.{mendLeft, mendNumber, mendAnswer, roomChecks, mendDone, mendOutcome};
 
 // The refusals that the mender gives.
 pub enum MendRefusal {
@@ -96,7 +96,7 @@ fn mend_pixels(picture: &mut [u8], size: FullSize, list: &mut [[u32; 2]])
 // Mends a whole picture. One that passes is mended as it stands, after the one pass that counts.
 fn mend_whole(picture: &mut [u8], size: FullSize, list: &mut [[u32; 2]]) -> Mended
     requires { ⌜ Pictured (size .w) (size .h) (now picture) ⌝ }
-    ensures { λ r. ⌜ mendAnswer r (now (picture .exit)) (now (list .exit)) ≡ settled (firstOf (roomChecks (now (picture .entry)) (size .w) (size .h) (length (now (list .entry))))) (mending (now (picture .entry)) (now (list .entry)) 0) (mendDone (now (picture .entry)) (size .w) (size .h) (now (list .entry))) ⌝ }
+    ensures { λ r. ⌜ mendAnswer r (now (picture .exit)) (now (list .exit)) ≡ settled (firstOf (roomChecks (now (picture .entry)) (size .w) (size .h) (length (now (list .entry))))) (mendLeft (now (picture .entry)) (now (list .entry)) 0) (mendDone (now (picture .entry)) (size .w) (size .h) (now (list .entry))) ⌝ }
 {
     let count = count_exceeding(picture, size.bytes() / 4);
     if list.len() < count {

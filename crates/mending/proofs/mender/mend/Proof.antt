@@ -39,7 +39,7 @@ returns-3 c =
     let call = c .before .before .before in
     let size = call .before .before in
     let passed = size .before .before in
-    rw (sides (passed .before .before), exact passed) (call .mend-whole .ensures ∙ rw (size .full-size .ensures))
+    rw (sides (passed .before .before), exact passed) (rw (size .full-size .ensures) at (call .mend-whole .ensures))
 
 pub mend-spec : {M : Type 1} → statement M
 mend-spec =

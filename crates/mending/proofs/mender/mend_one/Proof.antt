@@ -1,6 +1,5 @@
 -- A failing pixel is listed and lowered; another one stays, and no entry is written.
 use mathlib.Core.Path.{_≡_, refl, sym, ap, _∙_}
-use mathlib.Core.Bool.{true, false}
 use native.Mathlib.Omega.{arith}
 use borrow.Author.Needs.{needs}
 use Rattle.pixels.specs.Pixels.{pixelAt, withPixel}

@@ -1,0 +1,41 @@
+-- Check 18 as a proposition beside its Bool: it does not refuse exactly where every place is inside and above the one before.
+use mathlib.Core.Path.{_≡_, refl}
+use mathlib.Core.Bool.{true, false}
+use mathlib.Core.List.{List, [], _∷_}
+use mathlib.Core.Logic.{_↔_}
+use Prim.Native.Nat.{ℕ, zero, suc, _≤_, _<_}
+use native.Mathlib.Omega.{arith}
+use borrow.Author.Tests.{le-leb, lt-ltb, not-false}
+use lib.ListN.{length, getD}
+use Rattle.mending.specs.Restored.{placeOf, rising}
+use Rattle.mending.specs.Outcome.{wrongList}
+use Rattle.mending.proofs.Rising.{rising-first, rising-inside}
+
+pub record Risen (list : List (List ℕ)) (area : ℕ) : Type 0 where
+  pub inside : (i : ℕ) → i < length list → placeOf (getD list i []) < area
+  pub order : (i : ℕ) → suc i < length list → placeOf (getD list i []) < placeOf (getD list (suc i) [])
+
+in-order : (next area : ℕ) (list : List (List ℕ)) → rising next area list ≡ true → (i : ℕ) → suc i < length list →
+    placeOf (getD list i []) < placeOf (getD list (suc i) [])
+in-order next area [] h i l = absurd (omega arith)
+in-order next area (e ∷ []) h i l = absurd (omega arith)
+in-order next area (e ∷ f ∷ es) h zero l = rising-first (suc (placeOf e)) area f es (rising-first next area e (f ∷ es) h .2) .0
+in-order next area (e ∷ f ∷ es) h (suc i) l = in-order (suc (placeOf e)) area (f ∷ es) (rising-first next area e (f ∷ es) h .2) i (omega arith)
+
+rises : (next area : ℕ) (list : List (List ℕ)) → Risen list area → (0 < length list → next ≤ placeOf (getD list zero [])) → rising next area list ≡ true
+unfolding rising
+rises next area [] r low = refl
+rises next area (e ∷ es) r low =
+    rw (le-leb next (placeOf e) (low (omega arith)), lt-ltb (placeOf e) area (r .inside zero (omega arith)))
+    (rises (suc (placeOf e)) area es
+    (record { inside = λ i l. r .inside (suc i) (omega arith); order = λ i l. r .order (suc i) (omega arith) })
+    (λ l. r .order zero (omega arith)))
+
+pub right-list : (list : List (List ℕ)) (area : ℕ) → (wrongList list area ≡ false) ↔ Risen list area
+unfolding wrongList
+right-list list area = (
+  λ e.
+      let h = not-false _ e in
+      record { inside = rising-inside 0 area list h; order = in-order 0 area list h },
+  λ r. rw (rises 0 area list r (λ _. omega arith)),
+)
