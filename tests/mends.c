@@ -1,6 +1,6 @@
 /*
  * Mends pictures, compares each with the rule written plainly, checks it, mends it again, rebuilds the old one and
- * compares that; and tries each refusal. Every lent byte and entry is held to what it must be, with some beyond.
+ * compares that; and tries each refusal. Every lent byte and entry is held to what it must be, and those beyond them.
  */
 #include <stdio.h>
 #include <stdlib.h>
@@ -31,9 +31,10 @@ static void hold(int right, const char *what, uint32_t w, uint32_t h)
     exit(1);
 }
 
-/* A picture of bytes of any kind: one pixel in `rare` may exceed its alpha. */
+/* A picture of bytes of any kind, of which one pixel in `rare` may exceed its alpha; the bytes beyond it are 165. */
 static void draw(size_t area, uint32_t rare)
 {
+    memset(old, 165, sizeof old);
     for (size_t i = 0; i < area; i++) {
         uint32_t alpha = dice() % 4 == 0 ? 255 * (dice() & 1) : dice() & 255, most = dice() % rare ? alpha : 255;
         for (int c = 0; c < 3; c++) old[4 * i + c] = (uint8_t)(dice() % 3 ? dice() % (most + 1) : most);
@@ -45,7 +46,7 @@ static void draw(size_t area, uint32_t rare)
 static size_t mend_plainly(size_t area)
 {
     size_t count = 0;
-    memcpy(want, old, 4 * area);
+    memcpy(want, old, sizeof old);
     memcpy(listed, list, sizeof list);
     for (size_t i = 0; i < area; i++) {
         const uint8_t *p = old + 4 * i;
@@ -59,9 +60,9 @@ static size_t mend_plainly(size_t area)
     return count;
 }
 
-static int as_it_was(const uint8_t *bytes, size_t area, const corbelrush_change *entries)
+static int are(const uint8_t *bytes, const corbelrush_change *entries)
 {
-    return memcmp(picture, bytes, 4 * area) == 0 && memcmp(list, entries, sizeof list) == 0;
+    return memcmp(picture, bytes, sizeof picture) == 0 && memcmp(list, entries, sizeof list) == 0;
 }
 
 /* A list that the rebuild must refuse, and the picture as it was. */
@@ -70,7 +71,7 @@ static void spoiled(uint32_t w, uint32_t h, size_t count, size_t at, uint32_t pl
     uint32_t kept = list[at].place;
     list[at].place = place;
     hold(corbelrush_rebuild(picture, 4 * w * h, w, h, list, count) == CORBELRUSH_WRONG_LIST
-             && memcmp(picture, want, 4 * w * h) == 0, "a wrong list", w, h);
+             && memcmp(picture, want, sizeof want) == 0, "a wrong list", w, h);
     list[at].place = kept;
 }
 
@@ -84,7 +85,7 @@ static void round_of(uint32_t w, uint32_t h, uint32_t rare)
     size_t count = mend_plainly(area), room = count + dice() % (SPARE + 1);
     corbelrush_change before[MOST + SPARE];
     memcpy(before, list, sizeof list);
-    memcpy(picture, old, len);
+    memcpy(picture, old, sizeof old);
 
     hold(corbelrush_mend(picture, len, 0, h, list, room, &number) == CORBELRUSH_WRONG_SIDES && number == 0, "1", w, h);
     number = 7;
@@ -92,23 +93,23 @@ static void round_of(uint32_t w, uint32_t h, uint32_t rare)
     number = 7;
     if (count > 0)
         hold(corbelrush_mend(picture, len, w, h, list, count - 1, &number) == CORBELRUSH_LIST_FULL && number == 0, "17", w, h);
-    hold(as_it_was(old, area, before), "refused and changed", w, h);
+    hold(are(old, before), "refused and changed", w, h);
 
     hold(corbelrush_mend(picture, len, w, h, list, room, &number) == CORBELRUSH_DONE && number == count, "the count", w, h);
-    hold(as_it_was(want, area, listed), "the mended picture or the list", w, h);
+    hold(are(want, listed), "the mended picture or the list", w, h);
     hold(corbelrush_check(picture, len, w, h, &found, &place) == CORBELRUSH_DONE && found == 0, "the check", w, h);
     number = 7;
     hold(corbelrush_mend(picture, len, w, h, NULL, 0, &number) == CORBELRUSH_DONE && number == 0, "again", w, h);
-    hold(as_it_was(want, area, listed), "again and changed", w, h);
+    hold(are(want, listed), "again and changed", w, h);
 
     hold(corbelrush_rebuild(picture, len, w, 4097, list, count) == CORBELRUSH_WRONG_SIDES, "rebuild: 1", w, h);
     hold(corbelrush_rebuild(picture, len - 4, w, h, list, count) == CORBELRUSH_WRONG_LENGTH, "rebuild: 2", w, h);
     if (count > 0) spoiled(w, h, count, count - 1, (uint32_t)area);
     if (count > 1) spoiled(w, h, count, count - 1, list[count - 2].place);
     if (count > 1) spoiled(w, h, count, 0, list[1].place + 1);
-    hold(as_it_was(want, area, listed), "rebuild: refused and changed", w, h);
+    hold(are(want, listed), "rebuild: refused and changed", w, h);
     hold(corbelrush_rebuild(picture, len, w, h, list, count) == CORBELRUSH_DONE, "rebuild", w, h);
-    hold(as_it_was(old, area, listed), "the old picture", w, h);
+    hold(are(old, listed), "the old picture", w, h);
 }
 
 int main(void)

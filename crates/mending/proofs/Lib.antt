@@ -10,3 +10,4 @@ pub mod Restores
 pub mod Accepted
 pub mod Determined
 pub mod Promised
+pub mod Examples
