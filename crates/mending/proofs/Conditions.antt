@@ -1,14 +1,18 @@
 -- Check 18 as a proposition beside its Bool: it does not refuse exactly where every place is inside and above the one before.
+-- And check 17 does not refuse a list with room for every pixel.
 use mathlib.Core.Path.{_≡_, refl}
 use mathlib.Core.Bool.{true, false}
 use mathlib.Core.List.{List, [], _∷_}
 use mathlib.Core.Logic.{_↔_}
-use Prim.Native.Nat.{ℕ, zero, suc, _≤_, _<_}
+use Prim.Native.Nat.{ℕ, zero, suc, _*_, _≤_, _<_}
 use native.Mathlib.Omega.{arith}
-use borrow.Author.Tests.{le-leb, lt-ltb, not-false}
+use borrow.Author.Tests.{le-leb, lt-ltb, le-ltb, not-false}
+use lib.Dec.{ltb}
 use lib.ListN.{length, getD}
+use Rattle.pixels.specs.Channels.{exceedsAt}
 use Rattle.mending.specs.Restored.{placeOf, rising}
-use Rattle.mending.specs.Outcome.{wrongList}
+use Rattle.mending.specs.Outcome.{failing, wrongList}
+use Rattle.mending.proofs.Counted.{many-le}
 use Rattle.mending.proofs.Rising.{rising-first, rising-inside}
 
 pub record Risen (list : List (List ℕ)) (area : ℕ) : Type 0 where
@@ -39,3 +43,7 @@ right-list list area = (
       record { inside = rising-inside 0 area list h; order = in-order 0 area list h },
   λ r. rw (rises 0 area list r (λ _. omega arith)),
 )
+
+-- room for w·h entries is always enough
+pub never-full : (p : List ℕ) (w h room : ℕ) → w * h ≤ room → ltb room (failing p w h) ≡ false
+never-full p w h room l = le-ltb room (failing p w h) (omega (arith, many-le (exceedsAt p) (w * h)))
