@@ -1,5 +1,6 @@
 //! A case is one call of one entry; an outcome is its answer and all lent bytes afterwards.
 use crate::library::Library;
+use rule::mend::Change;
 use std::fmt;
 
 #[derive(Clone, Copy, Debug, PartialEq, Eq, PartialOrd, Ord)]
@@ -18,9 +19,11 @@ pub enum Entry {
     PlateLabel,
     PamRead,
     PamWrite,
+    Mend,
+    Rebuild,
 }
 
-pub const ENTRIES: [Entry; 14] = [
+pub const ENTRIES: [Entry; 16] = [
     Entry::Blur,
     Entry::Shift,
     Entry::Shadow,
@@ -35,6 +38,8 @@ pub const ENTRIES: [Entry; 14] = [
     Entry::PlateLabel,
     Entry::PamRead,
     Entry::PamWrite,
+    Entry::Mend,
+    Entry::Rebuild,
 ];
 
 /// The entries of the first release.
@@ -165,8 +170,20 @@ struct Lent {
 impl Lent {
     /// Begins at any alignment, by `turn`.
     fn new(content: impl ExactSizeIterator<Item = u8>, turn: usize) -> Lent {
-        let (from, length) = (GUARD + turn % 16, content.len());
-        let mut bytes: Vec<u8> = (0..from).map(work).collect();
+        Lent::aligned(content, turn, 1)
+    }
+
+    /// A list of words of 32 bits: begins at a multiple of 4 bytes, which may be an odd one.
+    fn list(words: &[u64], turn: usize) -> Lent {
+        let bytes: Vec<u8> = words.iter().flat_map(|word| (*word as u32).to_ne_bytes()).collect();
+        Lent::aligned(bytes.into_iter(), turn, 4)
+    }
+
+    fn aligned(content: impl ExactSizeIterator<Item = u8>, turn: usize, to: usize) -> Lent {
+        let length = content.len();
+        let mut bytes: Vec<u8> = Vec::with_capacity(2 * GUARD + 17 * to + length);
+        let from = GUARD + bytes.as_ptr().wrapping_add(GUARD).align_offset(to) + turn % 16 * to;
+        bytes.extend((0..from).map(work));
         bytes.extend(content);
         bytes.extend((from + length..from + length + GUARD).map(work));
         Lent { bytes, from, length }
@@ -183,6 +200,11 @@ impl Lent {
 
     fn content(&self) -> Vec<u8> {
         self.bytes[self.from..self.from + self.length].to_vec()
+    }
+
+    fn words(&self) -> Vec<u64> {
+        let word = |bytes: &[u8]| u64::from(u32::from_ne_bytes(bytes.try_into().unwrap()));
+        self.content().chunks_exact(4).map(word).collect()
     }
 
     fn strayed(&self) -> bool {
@@ -204,13 +226,14 @@ impl Default for Part {
     }
 }
 
-/// All lent buffers.
+/// All lent buffers, and the lent list.
 #[derive(Clone, Copy, Default)]
 pub struct Parts {
     pub picture: Part,
     pub scratch: Part,
     pub copy: Part,
     pub other: Part,
+    pub list: Part,
 }
 
 impl From<&mut Vec<u8>> for Part {
@@ -226,8 +249,15 @@ pub fn run(library: &Library, case: &Case) -> Outcome {
     let mut scratch = Lent::new((0..case.scratch).map(work), turn / 3);
     let mut copy = Lent::new((0..case.copy).map(work), turn / 5);
     let mut other = Lent::new(case.other.iter().copied(), turn / 7);
+    let mut list = Lent::list(&case.list, turn);
     let lent = case.clone();
-    let parts = Parts { picture: picture.part(), scratch: scratch.part(), copy: copy.part(), other: other.part() };
+    let parts = Parts {
+        picture: picture.part(),
+        scratch: scratch.part(),
+        copy: copy.part(),
+        other: other.part(),
+        list: list.part(),
+    };
     // SAFETY: no two buffers overlap.
     let (answer, numbers) = unsafe { call(library, &lent, parts) };
     let same_weights = lent.weights.iter().zip(&case.weights).all(|(a, b)| a.to_bits() == b.to_bits());
@@ -236,10 +266,10 @@ pub fn run(library: &Library, case: &Case) -> Outcome {
         picture: picture.content(),
         scratch: scratch.content(),
         copy: copy.content(),
-        list: lent.list,
+        list: list.words(),
         other: other.content(),
         numbers,
-        strayed: [picture, scratch, copy, other].iter().any(Lent::strayed) || !same_weights,
+        strayed: [picture, scratch, copy, other, list].iter().any(Lent::strayed) || !same_weights,
     }
 }
 
@@ -252,6 +282,7 @@ pub unsafe fn call(library: &Library, case: &Case, parts: Parts) -> (u32, [u64; 
     let Case { w, h, n, edge, dx, dy, strength, composite, x, y, unit, sheet, used, .. } = *case;
     let (Part { at: p, length: p_len }, Part { at: s, length: s_len }) = (parts.picture, parts.scratch);
     let (Part { at: c, length: c_len }, Part { at: o, length: o_len }) = (parts.copy, parts.other);
+    let (l, l_len) = (parts.list.at.cast::<Change>(), parts.list.length / size_of::<Change>());
     let [red, green, blue, alpha] = case.colour;
     let (k, k_len) = (case.weights.as_ptr(), case.weights.len());
     let ([mut wide, mut high], [mut far, mut long], mut page) = ([UNSET as u32; 2], [UNSET; 2], UNSET as u16);
@@ -275,10 +306,12 @@ pub unsafe fn call(library: &Library, case: &Case, parts: Parts) -> (u32, [u64; 
         Entry::PlateLabel => (library.plate_label)(p, p_len, x as u32, &mut wide, &mut page),
         Entry::PamRead => (library.pam_read)(o, o_len, p, p_len, &mut wide, &mut high, &mut far),
         Entry::PamWrite => (library.pam_write)(p, p_len, w, h, o, o_len, &mut far, &mut long),
+        Entry::Mend => (library.mend)(p, p_len, w, h, l, l_len, &mut far),
+        Entry::Rebuild => (library.rebuild)(p, p_len, w, h, l, l_len),
     };
     let numbers = match case.entry {
         Entry::Check => [wide.into(), far, 0, 0],
-        Entry::Spread | Entry::PlateStart | Entry::PlateAdd => [far, 0, 0, 0],
+        Entry::Spread | Entry::PlateStart | Entry::PlateAdd | Entry::Mend => [far, 0, 0, 0],
         Entry::PlatePicture => [wide.into(), high.into(), far, long],
         Entry::PlateLabel => [wide.into(), page.into(), 0, 0],
         Entry::PamRead => [wide.into(), high.into(), far, 0],
@@ -315,6 +348,7 @@ impl fmt::Display for Case {
         }
         write!(f, " scratch {} copy {}", self.scratch, self.copy)?;
         list(f, "bytes", &self.picture)?;
-        list(f, "other", &self.other)
+        list(f, "other", &self.other)?;
+        list(f, "list", &self.list)
     }
 }

@@ -1,6 +1,7 @@
 //! The cases, group by group.
 use crate::case::{Case, Entry, ENTRIES};
 use crate::inputs::{self, NOT_FINITE, NO_SHARE, OFFSETS};
+use crate::mend_cases;
 use crate::pam_cases;
 use crate::plate_cases;
 use crate::random::Random;
@@ -44,6 +45,7 @@ pub fn all(amount: Amount, take: Take) {
     for _ in 0..amount.of(1, 10) {
         plate_cases::all(&mut random, take);
         pam_cases::all(&mut random, take);
+        mend_cases::all(&mut random, take);
     }
     for _ in 0..amount.of(30_000, 900_000) {
         take(any(&mut random));
@@ -225,6 +227,8 @@ pub fn numbers(entry: Entry) -> &'static [u32] {
         Entry::PlateLabel => &[10, 12],
         Entry::PamRead => &[15, 3],
         Entry::PamWrite => &[1, 2, 16, 3],
+        Entry::Mend => &[1, 2, 17],
+        Entry::Rebuild => &[1, 2, 18],
     }
 }
 
@@ -305,6 +309,8 @@ fn spoil(random: &mut Random, case: &mut Case, number: u32) {
         13 => plate_cases::spoil_room(random, case),
         15 => pam_cases::spoil_file(random, case),
         16 => pam_cases::spoil_pixel(random, case),
+        17 => mend_cases::spoil_room(random, case),
+        18 => mend_cases::spoil_list(random, case),
         _ => case.x = random.pick(&[64, 65, i32::MIN, -1]),
     }
 }
@@ -314,6 +320,7 @@ pub fn accepted(random: &mut Random, entry: Entry) -> Case {
     match entry {
         Entry::PlateStart | Entry::PlateAdd | Entry::PlateLabel => return plate_cases::accepted(random, entry),
         Entry::PamRead | Entry::PamWrite => return pam_cases::accepted(random, entry),
+        Entry::Mend | Entry::Rebuild => return mend_cases::accepted(random, entry),
         _ => (),
     }
     let (w, h) = (random.range(1, 6) as u32, random.range(1, 6) as u32);

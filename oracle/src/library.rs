@@ -1,4 +1,5 @@
 //! The C functions as a table, filled by the linked library or by the rules.
+use rule::mend::{self, Change};
 use rule::{blur, grading, pam, plate, plate_write, shadow, shift};
 use std::slice;
 
@@ -18,6 +19,8 @@ pub struct Library {
     pub plate_label: PlateLabel,
     pub pam_read: PamRead,
     pub pam_write: PamWrite,
+    pub mend: Mend,
+    pub rebuild: Rebuild,
 }
 
 /// The types of the C functions, and the library's own ones where it is linked.
@@ -71,6 +74,12 @@ functions! {
         picture: *const u8, picture_len: usize, w: u32, h: u32, file: *mut u8, file_len: usize, written: *mut u64,
         place: *mut u64
     );
+    Mend corbelrush_mend(
+        picture: *mut u8, picture_len: usize, w: u32, h: u32, list: *mut Change, room: usize, count: *mut u64
+    );
+    Rebuild corbelrush_rebuild(
+        picture: *mut u8, picture_len: usize, w: u32, h: u32, list: *const Change, count: usize
+    );
 }
 
 /// The library under test: the linked one, else the rules.
@@ -98,6 +107,8 @@ static LINKED: Library = Library {
     plate_label: corbelrush_plate_label,
     pam_read: corbelrush_pam_read,
     pam_write: corbelrush_pam_write,
+    mend: corbelrush_mend,
+    rebuild: corbelrush_rebuild,
 };
 
 pub static RULE: Library = Library {
@@ -116,6 +127,8 @@ pub static RULE: Library = Library {
     plate_label: rule_plate_label,
     pam_read: rule_pam_read,
     pam_write: rule_pam_write,
+    mend: rule_mend,
+    rebuild: rule_rebuild,
 };
 
 // SAFETY of all below: the caller lends each buffer for the call, with its length, and no two overlap.
@@ -310,4 +323,29 @@ unsafe extern "C" fn rule_pam_write(
     let number;
     (number, *length, *place) = pam::write(read(picture, picture_len), w, h, written(file, file_len));
     number
+}
+
+unsafe extern "C" fn rule_mend(
+    picture: *mut u8,
+    picture_len: usize,
+    w: u32,
+    h: u32,
+    list: *mut Change,
+    room: usize,
+    count: *mut u64,
+) -> u32 {
+    let number;
+    (number, *count) = mend::mend(written(picture, picture_len), w, h, written(list, room));
+    number
+}
+
+unsafe extern "C" fn rule_rebuild(
+    picture: *mut u8,
+    picture_len: usize,
+    w: u32,
+    h: u32,
+    list: *const Change,
+    count: usize,
+) -> u32 {
+    mend::rebuild(written(picture, picture_len), w, h, read(list, count))
 }

@@ -8,6 +8,7 @@ mod faults;
 mod generate;
 mod inputs;
 mod library;
+mod mend_cases;
 mod pam_cases;
 mod passes;
 mod plate_cases;

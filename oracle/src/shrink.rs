@@ -134,7 +134,7 @@ fn bytes(case: &Case) -> Vec<Case> {
     simpler
 }
 
-/// What the entries after the first release take: the second buffer shorter and simpler, and small numbers.
+/// What the entries after the first release take: second buffer and list shorter and simpler, and small numbers.
 fn later(case: &Case) -> Vec<Case> {
     let mut simpler = Vec::new();
     let shorter =
@@ -145,6 +145,10 @@ fn later(case: &Case) -> Vec<Case> {
         other
     });
     simpler.extend(shorter.into_iter().chain(dark).map(|other| Case { other, ..case.clone() }));
+    let entries = case.list.len() / 2;
+    let fewer = [0, entries / 2, entries.saturating_sub(1)].map(|count| case.list[..2 * count].to_vec());
+    simpler.extend(fewer.map(|list| Case { list, ..case.clone() }));
+    simpler.push(Case { list: case.list.iter().map(|word| word / 2).collect(), ..case.clone() });
     simpler.push(Case { used: case.used / 2, ..case.clone() });
     simpler.push(Case { unit: case.unit / 2, ..case.clone() });
     simpler.push(Case { sheet: case.sheet / 2, ..case.clone() });

@@ -4,6 +4,7 @@ use crate::compare::Examiner;
 use crate::generate;
 use crate::inputs;
 use crate::library::{Library, RULE};
+use crate::mend_cases;
 use crate::pam_cases;
 use crate::plate_cases;
 use crate::random::Random;
@@ -194,6 +195,7 @@ pub fn cases() -> Vec<Case> {
     let mut cases = first_cases();
     let mut later = plate_cases::stored(&mut Random::new(10));
     later.extend(pam_cases::stored(&mut Random::new(12)));
+    later.extend(mend_cases::stored(&mut Random::new(13)));
     generate::refusals(&mut Random::new(11), &ENTRIES[9..], 1, 2, &mut |case| later.push(case));
     cases.extend(later.into_iter().filter(is_short));
     cases
@@ -246,7 +248,8 @@ fn is_small(case: &Case) -> bool {
 
 /// The same for the entries that came later.
 fn is_short(case: &Case) -> bool {
-    case.picture.len().max(case.other.len()) <= 512 && 2 * (case.picture.len() + case.other.len()) < 900
+    let numbers = 2 * (case.picture.len() + case.other.len() + case.list.len());
+    case.picture.len().max(case.other.len()) <= 512 && numbers < 900
 }
 
 /// Writes the vectors; each was compared with the Rust first.

@@ -2,14 +2,18 @@
 use crate::edges::{extend, Edge};
 use crate::refusal::{self, first};
 
+/// A pixel whose r, g or b exceeds its alpha.
+pub fn exceeds(pixel: &[u8]) -> bool {
+    pixel[..3].iter().any(|c| *c > pixel[3])
+}
+
 /// Check: refusals 1, 2. The number, whether a bad pixel was found, and the first one's place.
 pub fn check(picture: &[u8], w: u32, h: u32) -> (u32, bool, u64) {
     let refused = first(&[(1, refusal::sides(w, h)), (2, refusal::length(picture, w, h))]);
     if refused != 0 {
         return (refused, false, 0);
     }
-    let bad = |p: &[u8]| p[..3].iter().any(|c| *c > p[3]);
-    match picture.chunks_exact(4).position(bad) {
+    match picture.chunks_exact(4).position(exceeds) {
         Some(place) => (0, true, place as u64),
         None => (0, false, 0),
     }

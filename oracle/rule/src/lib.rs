@@ -3,6 +3,7 @@ pub mod blur;
 pub mod edges;
 pub mod exact;
 pub mod grading;
+pub mod mend;
 pub mod pam;
 pub mod plate;
 pub mod plate_write;
