@@ -124,11 +124,17 @@ fn report_images(input: &[u8]) {
     print_count(b"image written", count(input, 14));
 }
 
+fn report_mends(input: &[u8]) {
+    print_count(b"mend", count(input, 15));
+    print_count(b"rebuild", count(input, 16));
+}
+
 fn report(input: &[u8]) {
     report_filters(input);
     report_grades(input);
     report_plates(input);
     report_images(input);
+    report_mends(input);
     print_totals(count(input, 0));
 }
 

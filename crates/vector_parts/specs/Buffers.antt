@@ -1,14 +1,14 @@
 -- What the buffers of a call hold, before it and after it.
 use mathlib.Core.Path.{_≡_}
 use mathlib.Core.Bool.{cond}
-use mathlib.Core.List.{List, map}
-use Prim.Native.Nat.{ℕ, _+_, _%_, _≤_}
+use mathlib.Core.List.{List, [], _∷_, map}
+use Prim.Native.Nat.{ℕ, _+_, _*_, _%_, _≤_}
 use lib.Dec.{ltb}
 use lib.Ieee.{Float}
 use lib.ListN.{getD}
 use Rattle.picture.specs.Build.{build}
 use Rattle.vector_parts.specs.declared.parts.Part.{Part}
-use Rattle.vector_values.specs.Values.{byteOf, floatOf}
+use Rattle.vector_values.specs.Values.{byteOf, floatOf, wordOf}
 
 -- number i of a buffer that holds n numbers of a vector, which begin at a place, and then zeros
 abbrev pub numberAt : List ℕ → ℕ → ℕ → ℕ → ℕ
@@ -43,3 +43,11 @@ workOf zeros = build 512 (workByte zeros)
 -- a work buffer of which exactly the first bytes are cleared, and the others are as they were filled
 abbrev pub clearedWork : ℕ → List ℕ → Type 0
 clearedWork zeros work = (zeros ≤ 512) × (work ≡ workOf zeros)
+
+-- pair i of a list of numbers: its words 2i and 2i + 1
+abbrev pub pairIn : List ℕ → ℕ → List ℕ
+pairIn numbers i = wordOf (getD numbers (i * 2) 0) ∷ wordOf (getD numbers (i * 2 + 1) 0) ∷ []
+
+-- numbers of a vector from a place on, as 256 pairs
+abbrev pub pairsFrom : List ℕ → ℕ → ℕ → List (List ℕ)
+pairsFrom v at n = map (pairIn (numbersFrom v at n)) (build 256 (λ i. i))

@@ -4,18 +4,8 @@ use mathlib.Core.List.{List}
 use Prim.Native.Nat.{ℕ, _^_}
 use lib.Dec.{eqb, leb}
 use lib.ListN.{length}
-use Rattle.vector_parts.specs.declared.parts.Part.{Part}
-use Rattle.vector_values.specs.Values.{allUnder}
 use Rattle.vector_parts.specs.Parts.{weightsPart, bytesPart, otherPart}
-use Rattle.vector_parts.specs.Buffers.{numbersFrom}
-
--- n numbers from a place on are below a bound
-abbrev pub rangeUnder : List ℕ → ℕ → ℕ → ℕ → Bool
-rangeUnder v at n bound = allUnder (numbersFrom v at n) bound
-
--- those of a list are, before the call and after it
-unfoldable pub partUnder : List ℕ → Part → ℕ → Bool
-partUnder v p bound = rangeUnder v (p .before) (p .count) bound && rangeUnder v (p .after) (p .count) bound
+use Rattle.vector_parts.specs.Bounds.{rangeUnder, partUnder}
 
 -- numbers 0 to 18 and 22 to 24 have 32 bits; 15 and 16 are lengths of at most 512
 unfoldable pub headFits : List ℕ → Bool

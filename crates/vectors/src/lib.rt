@@ -15,6 +15,7 @@ pub fn agrees(v: &[u64]) -> bool {
         2 | 4..=6 | 8 | 10 | 12 => vector_pictures::agrees(v),
         7 => kernels::agrees(v),
         11 | 13 | 14 => vector_files::agrees(v),
+        15 | 16 => vector_lists::agrees(v),
         _ => false,
     }
 }

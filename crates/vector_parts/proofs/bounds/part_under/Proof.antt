@@ -1,9 +1,9 @@
 -- Each test is one of the definition, in its order.
 use borrow.Author.Needs.{needs}
-use Rattle.vectors.specs.Shape.{partUnder}
+use Rattle.vector_parts.specs.Bounds.{partUnder}
 use Rattle.vector_parts.proofs.Tested.{passed, refused}
-use Rattle.vectors.proofs.shape.part_under.Statement.{statement}
-use Rattle.vectors.proofs.shape.part_under.Tie as tie
+use Rattle.vector_parts.proofs.bounds.part_under.Statement.{statement}
+use Rattle.vector_parts.proofs.bounds.part_under.Tie as tie
 
 returns : tie.Need-returns
 unfolding partUnder

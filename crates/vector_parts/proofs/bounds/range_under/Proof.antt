@@ -1,7 +1,7 @@
 -- Of the numbers taken.
 use borrow.Author.Needs.{needs}
-use Rattle.vectors.proofs.shape.range_under.Statement.{statement}
-use Rattle.vectors.proofs.shape.range_under.Tie as tie
+use Rattle.vector_parts.proofs.bounds.range_under.Statement.{statement}
+use Rattle.vector_parts.proofs.bounds.range_under.Tie as tie
 
 returns : tie.Need-returns
 returns c = rw (c .before .before .numbers-from .ensures .0) at (c .all-under .ensures)
