@@ -10,28 +10,28 @@ use borrow.Author.Tests.{le-leb, lt-ltb, le-ltb, not-false}
 use lib.Dec.{ltb}
 use lib.ListN.{length, getD}
 use Rattle.pixels.specs.Channels.{exceedsAt}
-use Rattle.mending.specs.Restored.{placeOf, rising}
+use Rattle.mending.specs.Restored.{changePlace, rising}
 use Rattle.mending.specs.Outcome.{failing, wrongList}
 use Rattle.mending.proofs.Counted.{many-le}
 use Rattle.mending.proofs.Rising.{rising-first, rising-inside}
 
 pub record Risen (list : List (List ℕ)) (area : ℕ) : Type 0 where
-  pub inside : (i : ℕ) → i < length list → placeOf (getD list i []) < area
-  pub order : (i : ℕ) → suc i < length list → placeOf (getD list i []) < placeOf (getD list (suc i) [])
+  pub inside : (i : ℕ) → i < length list → changePlace (getD list i []) < area
+  pub order : (i : ℕ) → suc i < length list → changePlace (getD list i []) < changePlace (getD list (suc i) [])
 
 in-order : (next area : ℕ) (list : List (List ℕ)) → rising next area list ≡ true → (i : ℕ) → suc i < length list →
-    placeOf (getD list i []) < placeOf (getD list (suc i) [])
+    changePlace (getD list i []) < changePlace (getD list (suc i) [])
 in-order next area [] h i l = absurd (omega arith)
 in-order next area (e ∷ []) h i l = absurd (omega arith)
-in-order next area (e ∷ f ∷ es) h zero l = rising-first (suc (placeOf e)) area f es (rising-first next area e (f ∷ es) h .2) .0
-in-order next area (e ∷ f ∷ es) h (suc i) l = in-order (suc (placeOf e)) area (f ∷ es) (rising-first next area e (f ∷ es) h .2) i (omega arith)
+in-order next area (e ∷ f ∷ es) h zero l = rising-first (suc (changePlace e)) area f es (rising-first next area e (f ∷ es) h .2) .0
+in-order next area (e ∷ f ∷ es) h (suc i) l = in-order (suc (changePlace e)) area (f ∷ es) (rising-first next area e (f ∷ es) h .2) i (omega arith)
 
-rises : (next area : ℕ) (list : List (List ℕ)) → Risen list area → (0 < length list → next ≤ placeOf (getD list zero [])) → rising next area list ≡ true
+rises : (next area : ℕ) (list : List (List ℕ)) → Risen list area → (0 < length list → next ≤ changePlace (getD list zero [])) → rising next area list ≡ true
 unfolding rising
 rises next area [] r low = refl
 rises next area (e ∷ es) r low =
-    rw (le-leb next (placeOf e) (low (omega arith)), lt-ltb (placeOf e) area (r .inside zero (omega arith)))
-    (rises (suc (placeOf e)) area es
+    rw (le-leb next (changePlace e) (low (omega arith)), lt-ltb (changePlace e) area (r .inside zero (omega arith)))
+    (rises (suc (changePlace e)) area es
     (record { inside = λ i l. r .inside (suc i) (omega arith); order = λ i l. r .order (suc i) (omega arith) })
     (λ l. r .order zero (omega arith)))
 

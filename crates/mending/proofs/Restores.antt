@@ -13,14 +13,14 @@ use Rattle.pixels.specs.Pixels.{pixelAt, withPixel}
 use Rattle.pixels.specs.Channels.{exceedsAt}
 use Rattle.pixels.proofs.Painting.{at, chan-here, Painting, begins, next, turn, ends}
 use Rattle.mending.specs.Changes.{mended, change, changesBelow}
-use Rattle.mending.specs.Restored.{placeOf, oldOf, unpacked, restored}
+use Rattle.mending.specs.Restored.{changePlace, oldOf, unpacked, restored}
 use Rattle.mending.proofs.Packed.{Bytes, unpacks-at}
 use Rattle.mending.proofs.Lowered.{kept, same-pixel, mended-pixel, length-mended}
 use Rattle.mending.proofs.Listed.{changes-more}
 
 -- entry i, and the others after it
 pub restored-at : (list : List (List ℕ)) (bytes : List ℕ) (i : ℕ) → i < length list → let e = getD list i [] in
-    restored (drop i list) bytes ≡ restored (drop (i + 1) list) (withPixel bytes (placeOf e) (unpacked (oldOf e)))
+    restored (drop i list) bytes ≡ restored (drop (i + 1) list) (withPixel bytes (changePlace e) (unpacked (oldOf e)))
 unfolding restored
 restored-at list bytes i l = rw (drop-cons list i [] l, add-one i)
 
@@ -28,7 +28,7 @@ restored-at list bytes i l = rw (drop-cons list i [] l, add-one i)
 restored-more : (xs ys : List (List ℕ)) (bytes : List ℕ) → restored (xs ++ ys) bytes ≡ restored ys (restored xs bytes)
 unfolding restored
 restored-more [] ys bytes = refl
-restored-more (x ∷ xs) ys bytes = restored-more xs ys (withPixel bytes (placeOf x) (unpacked (oldOf x)))
+restored-more (x ∷ xs) ys bytes = restored-more xs ys (withPixel bytes (changePlace x) (unpacked (oldOf x)))
 
 -- the list of the changes, put back into the mended picture
 module _ (w h : ℕ) (p : List ℕ) (fit : Bytes p) where

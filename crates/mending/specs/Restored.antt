@@ -8,8 +8,8 @@ use Rattle.picture.specs.declared.Pixel.{Pixel}
 use Rattle.pixels.specs.Pixels.{withPixel}
 
 -- an entry's place, and its old pixel in one number
-abbrev pub placeOf : List ℕ → ℕ
-placeOf entry = getD entry 0 0
+abbrev pub changePlace : List ℕ → ℕ
+changePlace entry = getD entry 0 0
 
 abbrev pub oldOf : List ℕ → ℕ
 oldOf entry = getD entry 1 0
@@ -21,9 +21,9 @@ unpacked n = record { r = n % 256; g = n / 256 % 256; b = n / 65536 % 256; a = n
 -- each old pixel back in its place
 unfoldable pub restored : List (List ℕ) → List ℕ → List ℕ
 restored [] bytes = bytes
-restored (e ∷ es) bytes = restored es (withPixel bytes (placeOf e) (unpacked (oldOf e)))
+restored (e ∷ es) bytes = restored es (withPixel bytes (changePlace e) (unpacked (oldOf e)))
 
 -- the places are in strictly rising order from `next` on, and below the area
 unfoldable pub rising : ℕ → ℕ → List (List ℕ) → Bool
 rising next area [] = true
-rising next area (e ∷ es) = leb next (placeOf e) && (ltb (placeOf e) area && rising (suc (placeOf e)) area es)
+rising next area (e ∷ es) = leb next (changePlace e) && (ltb (changePlace e) area && rising (suc (changePlace e)) area es)
