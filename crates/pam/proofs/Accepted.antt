@@ -14,14 +14,14 @@ use Rattle.picture.proofs.Settled.{read}
 use Rattle.pam_format.specs.Format.{widthIn, heightIn, isPam, Pam}
 use Rattle.pam_format.proofs.Files.{pam-is}
 use Rattle.pam.specs.Straight.{imported}
-use Rattle.pam.specs.Import.{PictureRead, bodyOf, importOutcome, importAnswer}
+use Rattle.pam.specs.Import.{PictureRead, pixelsIn, importOutcome, importAnswer}
 use Rattle.pam.specs.declared.reading.Imported.the-variants.{Read}
 
 -- a file that was read: it is a PAM file of these sides, there was room, and its body came inward to the front of the picture
 pub record ReadIn (file picture : List ℕ) (w h : ℕ) (new : List ℕ) : Type 0 where
   pub pam : Pam file w h
   pub room : bytesOf w h ≤ length picture
-  pub left : new ≡ laid (imported w h (bodyOf file w h)) picture
+  pub left : new ≡ laid (imported w h (pixelsIn file w h)) picture
 
 module _ (file picture : List ℕ) (size : FullSize) (new : List ℕ) (e : importAnswer (Read size) new ≡ importOutcome file picture) where
   pub was-read : ReadIn file picture (size .w) (size .h) new

@@ -10,7 +10,7 @@ use Rattle.picture.specs.Refusal.{firstElse, firstOf, tooShort}
 use Rattle.picture.specs.Sizes.{fullSize}
 use Rattle.pam_format.specs.Format.{widthIn, heightIn, isPam}
 use Rattle.pam.specs.Straight.{imported}
-use Rattle.pam.specs.Import.{bodyOf, importOutcome, importAnswer}
+use Rattle.pam.specs.Import.{pixelsIn, importOutcome, importAnswer}
 use Rattle.pam.specs.declared.reading.ImportRefusal.the-variants.{NoPam, TooShort}
 use Rattle.pam.specs.declared.reading.Imported.the-variants.{Refused, Read}
 
@@ -32,7 +32,7 @@ module _ (file picture : List ℕ) where
     no-room t = rw (pam, t)
 
     pub read-in : tooShort (length picture) (widthIn file) (heightIn file) ≡ false → (new : List ℕ) →
-        new ≡ laid (imported (widthIn file) (heightIn file) (bodyOf file (widthIn file) (heightIn file))) picture →
+        new ≡ laid (imported (widthIn file) (heightIn file) (pixelsIn file (widthIn file) (heightIn file))) picture →
         importAnswer (Read (fullSize (widthIn file) (heightIn file))) new ≡ importOutcome file picture
     unfolding importOutcome settled firstOf firstElse
     read-in t new e = rw (pam, t, e)

@@ -22,7 +22,7 @@ use Rattle.pam_format.specs.Format.{widthIn, heightIn, fileLength, Pam}
 use Rattle.pam_format.proofs.Files.{pam-is}
 use Rattle.pam.specs.Straight.{outward, imported, exported}
 use Rattle.pam.specs.Needs.{Passed}
-use Rattle.pam.specs.Import.{bodyOf, importOutcome, importAnswer}
+use Rattle.pam.specs.Import.{pixelsIn, importOutcome, importAnswer}
 use Rattle.pam.specs.Export.{fileOf}
 use Rattle.pam.specs.declared.reading.Imported.{Imported}
 use Rattle.pam.specs.declared.reading.Imported.the-variants as import
@@ -55,9 +55,9 @@ module _ (w h : ℕ) (picture : List ℕ) where
         let told = pam-is f .1 w h is-pam in
         let w-is = told .1 in
         let h-is = told .2 in
-        let body : bodyOf f w h ≡ exported w h picture = drop-append-seam (header w h) (exported w h picture) in
-        let same : imported (widthIn f) (heightIn f) (bodyOf f (widthIn f) (heightIn f)) ≡ picture =
-        ap₂ (λ (x y : ℕ). imported x y (bodyOf f x y)) w-is h-is ∙ ap (imported w h) body ∙ there-and-back w h picture bytes (right-length (length picture) w h .0 (t .exact)) (t .scan) in
+        let body : pixelsIn f w h ≡ exported w h picture = drop-append-seam (header w h) (exported w h picture) in
+        let same : imported (widthIn f) (heightIn f) (pixelsIn f (widthIn f) (heightIn f)) ≡ picture =
+        ap₂ (λ (x y : ℕ). imported x y (pixelsIn f x y)) w-is h-is ∙ ap (imported w h) body ∙ there-and-back w h picture bytes (right-length (length picture) w h .0 (t .exact)) (t .scan) in
         ap₂ (λ (x y : ℕ). importAnswer (import.Read (fullSize x y)) (laid picture p)) (sym w-is) (sym h-is)
         ∙ read-in f p (told .0) (ap₂ (tooShort (length p)) w-is h-is ∙ long-enough (length p) w h .1 room) (laid picture p) (ap (λ (q : List ℕ). laid q p) (sym same))
 
@@ -97,7 +97,7 @@ read-passes κs a r x e size is bytes =
     let w = size .w in
     let h = size .h in
     let t = was-read file (now (a .1 .0)) size (now (x .1 .0)) (ap (λ (r : Imported). importAnswer r (now (x .1 .0))) (sym is) ∙ e) in
-    let body = bodyOf file w h in
+    let body = pixelsIn file w h in
     let exact = length-recoloured premultiply w h body in
     let read : take (bytesOf w h) (now (x .1 .0)) ≡ imported w h body = ap (take (bytesOf w h)) (t .left) ∙ front (imported w h body) (now (a .1 .0)) (bytesOf w h) exact in
     rw (read, t .pam .sides, right-length (length (imported w h body)) w h .1 exact, passes-inward w h body (λ i. subst (λ (b : ℕ). b ≤ 255) (sym (getD-drop (length (header w h)) file i 0)) (bytes (length (header w h) + i))))

@@ -33,14 +33,14 @@ abbrev pub importChecks : List ℕ → ℕ → List Check
 importChecks file room = check 15 (not (isPam file)) ∷ check 3 (tooShort room (widthIn file) (heightIn file)) ∷ []
 
 -- a PAM file of w by h pixels without its header
-abbrev pub bodyOf : List ℕ → ℕ → ℕ → List ℕ
-bodyOf file w h = drop (length (header w h)) file
+abbrev pub pixelsIn : List ℕ → ℕ → ℕ → List ℕ
+pixelsIn file w h = drop (length (header w h)) file
 
 -- the first refusal, or the file's picture in front of what the lent bytes have past it
 unfoldable pub importOutcome : List ℕ → List ℕ → Answer PictureRead
 importOutcome file picture =
     settled (firstOf (importChecks file (length picture))) (nothingRead picture)
-    (pictureRead (widthIn file) (heightIn file) (laid (imported (widthIn file) (heightIn file) (bodyOf file (widthIn file) (heightIn file))) picture))
+    (pictureRead (widthIn file) (heightIn file) (laid (imported (widthIn file) (heightIn file) (pixelsIn file (widthIn file) (heightIn file))) picture))
 
 -- the number of each refusal
 abbrev pub importNumber : ImportRefusal → ℕ

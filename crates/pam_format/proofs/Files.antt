@@ -11,8 +11,8 @@ use borrow.Author.Tests.{eqb-true, eq-eqb, not-true}
 use Rattle.picture.specs.Planes.{bytesOf}
 use Rattle.picture.specs.Refusal.{wrongSides}
 use Rattle.picture.proofs.Sizes.{full-sized, room-is}
-use Rattle.pam_format.specs.Header.{bytes, digits, decimal, beforeWidth, beforeHeight, afterHeight, header}
-use Rattle.pam_format.specs.Format.{numberOn, numberAt, widthIn, heightIn, starts, hasSides, isPam, Pam}
+use Rattle.pam_format.specs.Header.{bytes, digitCount, decimal, beforeWidth, beforeHeight, afterHeight, header}
+use Rattle.pam_format.specs.Format.{numberOn, sideAt, widthIn, heightIn, beginsWith, hasSides, isPam, Pam}
 use Rattle.pam_format.proofs.Decimals.{length-decimal}
 use Rattle.pam_format.proofs.Numbers.{value-of}
 use Rattle.pam_format.proofs.Starts.{both, starts-own, starts-is}
@@ -26,8 +26,8 @@ module _ (w h : ℕ) (s : wrongSides w h ≡ false) where
   short-height = omega (arith, room-is, full-sized w h s .h-high)
 
 -- a number in decimal after some bytes, up to a line's end
-number-after : (front rest file : List ℕ) (n at : ℕ) → n < 100000 → at ≡ length front → file ≡ front ++ (decimal n ++ rest) → rest ≡ 10 ∷ drop 1 rest → numberAt file at ≡ n
-unfolding numberAt
+number-after : (front rest file : List ℕ) (n at : ℕ) → n < 100000 → at ≡ length front → file ≡ front ++ (decimal n ++ rest) → rest ≡ 10 ∷ drop 1 rest → sideAt file at ≡ n
+unfolding sideAt
 number-after front rest file n at l e s t =
     rw (s, e, drop-append-seam front (decimal n ++ rest)) (ap (λ (r : List ℕ). numberOn (decimal n ++ r) 0) t ∙ value-of n (drop 1 rest) l)
 
@@ -42,7 +42,7 @@ module _ (file : List ℕ) (w h : ℕ) (p : Pam file w h) where
   unfolding header afterHeight bytes
   height-is =
       let front = beforeWidth ++ decimal w ++ beforeHeight in
-      number-after front (afterHeight ++ p .body) file h (length beforeWidth + digits (widthIn file) + length beforeHeight) (short-height w h (p .sides))
+      number-after front (afterHeight ++ p .body) file h (length beforeWidth + digitCount (widthIn file) + length beforeHeight) (short-height w h (p .sides))
       (rw width-is (simp (length-append, length-decimal)))
       (p .spelt ∙ simp append-assoc) refl
 
@@ -51,7 +51,7 @@ module _ (file : List ℕ) (w h : ℕ) (p : Pam file w h) where
   unfolding hasSides
   fits =
       let long : length file ≡ length (header w h) + bytesOf w h = ap length (p .spelt) ∙ length-append (header w h) (p .body) ∙ ap (λ (n : ℕ). length (header w h) + n) (p .exact) in
-      rw (p .sides, eq-eqb _ _ long) (ap (starts (header w h)) (p .spelt) ∙ starts-own (header w h) (p .body))
+      rw (p .sides, eq-eqb _ _ long) (ap (beginsWith (header w h)) (p .spelt) ∙ starts-own (header w h) (p .body))
 
   -- .. and is accepted
   pub accepts : isPam file ≡ true

@@ -10,7 +10,7 @@ use lib.ListN.{length, drop, getD, drop-of-length-le}
 use lib.Seq.{drop-cons}
 use borrow.Author.Tests.{le-leb, lt-leb, lt-ltb, le-ltb, ltb-true}
 use Rattle.picture.specs.Build.{build}
-use Rattle.pam_format.specs.Header.{digits, digit, decimal}
+use Rattle.pam_format.specs.Header.{digitCount, digit, decimal}
 use Rattle.pam_format.specs.Format.{numberOn}
 
 -- the byte at i of a file, after the digits that made v
@@ -81,7 +81,7 @@ module _ (n : ℕ) (rest : List ℕ) where
   by-10000 = omega arith
 
   pub value-of : n < 100000 → numberOn (decimal n ++ (10 ∷ rest)) 0 ≡ n
-  unfolding decimal digits digit build
+  unfolding decimal digitCount digit build
   value-of l = by (ltb n 10) refl (ltb n 100) refl (ltb n 1000) refl (ltb n 10000) refl
     where
       by : (a : Bool) → ltb n 10 ≡ a → (b : Bool) → ltb n 100 ≡ b → (c : Bool) → ltb n 1000 ≡ c → (d : Bool) → ltb n 10000 ≡ d → numberOn (decimal n ++ (10 ∷ rest)) 0 ≡ n

@@ -7,7 +7,7 @@ use lib.Dec.{ltb, leb, eqb}
 use lib.ListN.{length, drop}
 use Rattle.picture.specs.Planes.{bytesOf}
 use Rattle.picture.specs.Refusal.{wrongSides}
-use Rattle.pam_format.specs.Header.{digits, beforeWidth, beforeHeight, header}
+use Rattle.pam_format.specs.Header.{digitCount, beforeWidth, beforeHeight, header}
 
 -- a character that is a digit
 abbrev pub isDigit : ℕ → Bool
@@ -19,21 +19,21 @@ numberOn [] v = v
 numberOn (b ∷ bs) v = cond (isDigit b && ltb v 10000) (numberOn bs (10 * v + (b - 48))) v
 
 -- the number at a place of a file; there may be leading zeros, which the comparison with the header finds
-unfoldable pub numberAt : List ℕ → ℕ → ℕ
-numberAt file at = numberOn (drop at file) 0
+unfoldable pub sideAt : List ℕ → ℕ → ℕ
+sideAt file at = numberOn (drop at file) 0
 
 -- the sides, where the header has them
 abbrev pub widthIn : List ℕ → ℕ
-widthIn file = numberAt file (length beforeWidth)
+widthIn file = sideAt file (length beforeWidth)
 
 abbrev pub heightIn : List ℕ → ℕ
-heightIn file = numberAt file (length beforeWidth + digits (widthIn file) + length beforeHeight)
+heightIn file = sideAt file (length beforeWidth + digitCount (widthIn file) + length beforeHeight)
 
 -- some bytes begin with others
-unfoldable pub starts : List ℕ → List ℕ → Bool
-starts [] file = true
-starts (b ∷ bs) [] = false
-starts (b ∷ bs) (c ∷ cs) = eqb b c && starts bs cs
+unfoldable pub beginsWith : List ℕ → List ℕ → Bool
+beginsWith [] file = true
+beginsWith (b ∷ bs) [] = false
+beginsWith (b ∷ bs) (c ∷ cs) = eqb b c && beginsWith bs cs
 
 -- how long the file of a picture of w by h pixels is: its header, and 4wh bytes
 abbrev pub fileLength : ℕ → ℕ → ℕ
@@ -41,7 +41,7 @@ fileLength w h = length (header w h) + bytesOf w h
 
 -- a file of these sides: they are within refusal 1's limits, its length is theirs, and it begins with their header
 unfoldable pub hasSides : List ℕ → ℕ → ℕ → Bool
-hasSides file w h = not (wrongSides w h) && (eqb (length file) (fileLength w h) && starts (header w h) file)
+hasSides file w h = not (wrongSides w h) && (eqb (length file) (fileLength w h) && beginsWith (header w h) file)
 
 -- a PAM file
 abbrev pub isPam : List ℕ → Bool

@@ -14,8 +14,8 @@ bytes [] = none
 bytes (c ∷ s) = code c then bytes s
 
 -- how many digits a number below 100000 has; no side has more
-unfoldable pub digits : ℕ → ℕ
-digits n = cond (ltb n 10) 1 (cond (ltb n 100) 2 (cond (ltb n 1000) 3 (cond (ltb n 10000) 4 5)))
+unfoldable pub digitCount : ℕ → ℕ
+digitCount n = cond (ltb n 10) 1 (cond (ltb n 100) 2 (cond (ltb n 1000) 3 (cond (ltb n 10000) 4 5)))
 
 -- the digit of a number at 10^k, as its character
 unfoldable pub digit : ℕ → ℕ → ℕ
@@ -23,7 +23,7 @@ digit n k = 48 + n / 10 ^ k % 10
 
 -- a number in decimal, the highest digit first, without leading zeros
 unfoldable pub decimal : ℕ → List ℕ
-decimal n = build (digits n) (λ i. digit n (digits n - suc i))
+decimal n = build (digitCount n) (λ i. digit n (digitCount n - suc i))
 
 -- the words before the width, between it and the height, and after the height
 unfoldable pub beforeWidth : List ℕ

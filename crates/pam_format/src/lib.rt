@@ -6,12 +6,12 @@ ghost use Prim.Native.Nat.{_+_, _^_, _≤_};
 ghost use lib.ListN.{length};
 ghost use Rattle.picture.specs.Planes.{laid};
 ghost use Rattle.picture.specs.Refusal.{wrongSides};
-ghost use Rattle.pam_format.specs.Header.{digits, digit, decimal, header, writtenAt};
-ghost use Rattle.pam_format.specs.Format.{numberAt, widthIn, heightIn, starts, fileLength, isPam, hasSides};
+ghost use Rattle.pam_format.specs.Header.{digitCount, digit, decimal, header, writtenAt};
+ghost use Rattle.pam_format.specs.Format.{sideAt, widthIn, heightIn, beginsWith, fileLength, isPam, hasSides};
 
 // How many digits a number below 100000 has.
 fn digits(n: u32) -> usize
-    ensures { λ r. ⌜ r ≡ digits n ⌝ }
+    ensures { λ r. ⌜ r ≡ digitCount n ⌝ }
 {
     if n < 10 {
         return 1;
@@ -49,7 +49,7 @@ fn digit(n: u32, k: usize) -> u8
 
 // Writes a number in decimal, the highest digit first.
 fn write_decimal(out: &mut [u8], n: u32)
-    requires { ⌜ length (now out) ≡ digits n ⌝ }
+    requires { ⌜ length (now out) ≡ digitCount n ⌝ }
     ensures { λ _. ⌜ now (out .exit) ≡ decimal n ⌝ }
 {
     let mut i = 0;
@@ -61,7 +61,7 @@ fn write_decimal(out: &mut [u8], n: u32)
 
 // Writes a number into a line from `at` on, and answers the place after it.
 fn put_number(line: &mut [u8], at: usize, n: u32) -> usize
-    requires { ⌜ at + digits n ≤ length (now line) ⌝ }
+    requires { ⌜ at + digitCount n ≤ length (now line) ⌝ }
     ensures { λ r. ⌜ (r ≡ at + length (decimal n)) × (now (line .exit) ≡ writtenAt at (decimal n) (now (line .entry))) ⌝ }
 {
     let end = at + digits(n);
@@ -112,7 +112,7 @@ pub fn file_length(w: u32, h: u32) -> usize
 
 // The number at a place of a file.
 fn number_at(file: &[u8], at: usize) -> u32
-    ensures { λ r. ⌜ r ≡ numberAt (now (file .entry)) at ⌝ }
+    ensures { λ r. ⌜ r ≡ sideAt (now (file .entry)) at ⌝ }
 {
     let mut value = 0;
     let mut i = at;
@@ -150,7 +150,7 @@ pub fn height_in(file: &[u8]) -> u32
 // Whether a file begins with some bytes.
 fn starts_with(file: &[u8], head: &[u8]) -> bool
     requires { ⌜ length (now head) ≤ length (now file) ⌝ }
-    ensures { λ r. ⌜ r ≡ starts (now (head .entry)) (now (file .entry)) ⌝ }
+    ensures { λ r. ⌜ r ≡ beginsWith (now (head .entry)) (now (file .entry)) ⌝ }
 {
     let mut i = 0;
     while i < head.len() {
@@ -165,7 +165,7 @@ fn starts_with(file: &[u8], head: &[u8]) -> bool
 // Whether a file begins with the header of these sides.
 fn has_header(file: &[u8], w: u32, h: u32) -> bool
     requires { ⌜ length (header w h) ≤ length (now file) ⌝ }
-    ensures { λ r. ⌜ r ≡ starts (header w h) (now (file .entry)) ⌝ }
+    ensures { λ r. ⌜ r ≡ beginsWith (header w h) (now (file .entry)) ⌝ }
 {
     let mut line = [0u8; 80];
     let end = write_header(&mut line, w, h);

@@ -8,7 +8,7 @@ use lib.ListN.{length, take}
 use lib.Seq.{take-append-seam}
 use Rattle.picture.specs.Planes.{laid}
 use Rattle.pam_format.specs.Header.{header}
-use Rattle.pam_format.specs.Format.{starts}
+use Rattle.pam_format.specs.Format.{beginsWith}
 use Rattle.pam_format.proofs.Decimals.{digits-most, length-header}
 use Rattle.pam_format.proofs.has_header.Statement.{statement}
 use Rattle.pam_format.proofs.has_header.Tie as tie
@@ -39,7 +39,7 @@ starts-with-requires c κs = let w = c .before .before in rw (head-is w) (w .bef
 returns : tie.Need-returns
 returns c =
     let w = c .before .before .before in
-    c .starts-with .ensures ∙ ap (λ (head : List ℕ). starts head (w .before .before .before .args .file .now)) (head-is w)
+    c .starts-with .ensures ∙ ap (λ (head : List ℕ). beginsWith head (w .before .before .before .args .file .now)) (head-is w)
 
 pub has-header-spec : {M : Type 1} → statement M
 has-header-spec =

@@ -4,8 +4,8 @@ use Prim.Native.Nat.{_+_}
 use native.Mathlib.Omega.{arith}
 use borrow.Author.Needs.{needs}
 use lib.ListN.{length}
-use Rattle.pam_format.specs.Header.{digits, beforeWidth, beforeHeight}
-use Rattle.pam_format.specs.Format.{numberAt, widthIn}
+use Rattle.pam_format.specs.Header.{digitCount, beforeWidth, beforeHeight}
+use Rattle.pam_format.specs.Format.{sideAt, widthIn}
 use Rattle.pam_format.proofs.Decimals.{digits-most, length-width, length-height}
 use Rattle.pam_format.proofs.height_in.Statement.{statement}
 use Rattle.pam_format.proofs.height_in.Tie as tie
@@ -18,9 +18,9 @@ returns c =
     let d = c .before in
     let w = d .before in
     let file = w .before .before .args .file .now in
-    let place : 17 + d .digits .result ≡ length beforeWidth + digits (widthIn file) + length beforeHeight =
-    omega (arith, d .digits .ensures ∙ ap digits (w .width-in .ensures), length-width, length-height) in
-    c .number-at .ensures ∙ ap (numberAt file) place
+    let place : 17 + d .digits .result ≡ length beforeWidth + digitCount (widthIn file) + length beforeHeight =
+    omega (arith, d .digits .ensures ∙ ap digitCount (w .width-in .ensures), length-width, length-height) in
+    c .number-at .ensures ∙ ap (sideAt file) place
 
 pub height-in-spec : {M : Type 1} → statement M
 height-in-spec =

@@ -3,19 +3,19 @@ use mathlib.Core.Path.{_≡_, refl, sym, _∙_}
 use Prim.Native.Nat.{_-_, _≤_}
 use native.Mathlib.Omega.{arith}
 use lib.ListN.{length, drop}
-use Rattle.pam_format.specs.Format.{numberOn, numberAt}
+use Rattle.pam_format.specs.Format.{numberOn, sideAt}
 use Rattle.pam_format.proofs.Numbers.{ended, below, above, full, goes}
 use Rattle.pam_format.proofs.number_at.Statement.{statement}
 use Rattle.pam_format.proofs.number_at.Tie as tie
 
 abbrev Inv-loop : tie.InvT-loop
-Inv-loop file at value₀ i₀ value i = (value ≤ 99999) × (numberAt file at ≡ numberOn (drop i file) value)
+Inv-loop file at value₀ i₀ value i = (value ≤ 99999) × (sideAt file at ≡ numberOn (drop i file) value)
 
 abbrev μ-loop : tie.MeasureT-loop
 μ-loop file at value₀ i₀ value i = length file - i
 
 loop-holds : tie.Need-loop-holds Inv-loop μ-loop
-unfolding numberAt
+unfolding sideAt
 loop-holds c = (omega arith, refl)
 
 returns : tie.Need-returns Inv-loop μ-loop

@@ -3,13 +3,13 @@ use mathlib.Core.Path.{_≡_, refl, sym, _∙_}
 use Prim.Native.Nat.{_-_, _≤_}
 use native.Mathlib.Omega.{arith}
 use lib.ListN.{length, drop}
-use Rattle.pam_format.specs.Format.{starts}
+use Rattle.pam_format.specs.Format.{beginsWith}
 use Rattle.pam_format.proofs.Starts.{differs, same, all-same}
 use Rattle.pam_format.proofs.starts_with.Statement.{statement}
 use Rattle.pam_format.proofs.starts_with.Tie as tie
 
 abbrev Inv-loop : tie.InvT-loop
-Inv-loop file head i₀ i = (i ≤ length head) × (starts head file ≡ starts (drop i head) (drop i file))
+Inv-loop file head i₀ i = (i ≤ length head) × (beginsWith head file ≡ beginsWith (drop i head) (drop i file))
 
 abbrev μ-loop : tie.MeasureT-loop
 μ-loop file head i₀ i = length head - i

@@ -7,14 +7,14 @@ use lib.ListN.{length, drop, length-set}
 use lib.Seq.{drop-length}
 use Rattle.picture.specs.Build.{build}
 use Rattle.picture.proofs.Build.{build-more}
-use Rattle.pam_format.specs.Header.{digits, digit, decimal}
+use Rattle.pam_format.specs.Header.{digitCount, digit, decimal}
 use Rattle.pam_format.proofs.Decimals.{digits-most}
 use Rattle.pam_format.proofs.write_decimal.Statement.{statement}
 use Rattle.pam_format.proofs.write_decimal.Tie as tie
 
 -- digit i from the front
 abbrev nth : ℕ → ℕ → ℕ
-nth n i = digit n (digits n - suc i)
+nth n i = digit n (digitCount n - suc i)
 
 abbrev Inv-loop : tie.InvT-loop
 Inv-loop out₀ n i₀ out i = (i ≤ length out₀) × (out ≡ build i (nth n) ++ drop i out₀) × (length out ≡ length out₀)
@@ -34,7 +34,7 @@ loop-again c =
     let at = c .before .before in
     let s = at .before .before in
     let a = s .args in
-    let place : length (at .loop .out) - (at .loop .i + 1) ≡ digits (a .n) - suc (at .loop .i) = omega (arith, s .pre) in (
+    let place : length (at .loop .out) - (at .loop .i + 1) ≡ digitCount (a .n) - suc (at .loop .i) = omega (arith, s .pre) in (
       omega arith,
       rw (c .digit .ensures, place, at .loop .inv .1) (build-more (nth (a .n)) (a .out .now) (at .loop .i) (omega arith)),
       simp length-set (at .loop .inv .2),

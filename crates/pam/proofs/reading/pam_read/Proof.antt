@@ -18,7 +18,7 @@ use Rattle.pam_format.specs.Header.{header}
 use Rattle.pam_format.specs.Format.{widthIn, heightIn, isPam, Pam}
 use Rattle.pam_format.proofs.Files.{pam-is}
 use Rattle.pam.specs.Straight.{imported}
-use Rattle.pam.specs.Import.{bodyOf, importAnswer}
+use Rattle.pam.specs.Import.{pixelsIn, importAnswer}
 use Rattle.pam.specs.declared.reading.Imported.the-variants.{Read}
 use Rattle.pam.proofs.Imports.{no-pam, no-room, read-in, laid-front}
 use Rattle.pam.proofs.Recolouring.{length-recoloured}
@@ -99,7 +99,7 @@ sub-read-body c = omega (arith, begins (c .before), long (c .before .before .bef
 
 -- what is lent on is the file's body, all of it
 body-is : (c : tie.After-header-length) → let e = c .before .before .before in
-    take (length (file (read e)) - c .header-length .result) (drop (c .header-length .result) (file (read e))) ≡ bodyOf (file (read e)) (w e) (h e)
+    take (length (file (read e)) - c .header-length .result) (drop (c .header-length .result) (file (read e))) ≡ pixelsIn (file (read e)) (w e) (h e)
 body-is c =
     let f = file (read (c .before .before .before)) in
     take-all (length f - c .header-length .result) (drop (c .header-length .result) f) (omega (arith, length-drop (c .header-length .result) f)) ∙ ap (λ (n : ℕ). drop n f) (begins c)
