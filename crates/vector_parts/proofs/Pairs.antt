@@ -1,7 +1,7 @@
 -- Pairs that are the same, and lists of them.
-use mathlib.Core.Path.{_≡_, refl, ap, _∙_, sym}
-use mathlib.Core.List.{List, [], _∷_, _++_}
-use Prim.Native.Nat.{ℕ, zero, suc, _+_, _<_}
+use mathlib.Core.Path.{_≡_, ap, _∙_, sym}
+use mathlib.Core.List.{List, [], _∷_}
+use Prim.Native.Nat.{ℕ, _+_, _<_}
 use native.Mathlib.Numerals.{add-one}
 use native.Mathlib.Omega.{arith}
 use lib.ListN.{length, getD, take}
@@ -24,6 +24,6 @@ same-more a b i d h k e f = rw (add-one, take-suc a i d h, take-suc b i d k, e, 
 
 -- lists that are the same to their end
 pub same-whole : {A : Type 0} (a b : List A) (i : ℕ) → i ≡ length a → length a ≡ length b → take i a ≡ take i b → a ≡ b
-same-whole {A} a b i e l h =
+same-whole a b i e l h =
     let k : i ≡ length b = omega arith in
     sym (take-length a) ∙ ap (λ (n : ℕ). take n a) (sym e) ∙ h ∙ ap (λ (n : ℕ). take n b) k ∙ take-length b
