@@ -7,7 +7,6 @@ use borrow.Fn.Kinds.{PK, RK, Out, Dens, resT, endedOf}
 use denote.Triple.Clauses.{AtExit}
 use denote.Ref.{now}
 use Rattle.picture.specs.Answer.{answered, lent, lentCopy}
-use Rattle.drop_shadow.specs.Outcome as shadowing
 use Rattle.plate.specs.Lookup.{beside}
 use Rattle.plate_write.specs.Outcome.{grown}
 use Rattle.corbelrush.specs.Words.{pointers, pictureIn}

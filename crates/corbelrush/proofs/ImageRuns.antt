@@ -1,5 +1,5 @@
 -- Image files for C: whatever a contract allows of one call is one, two runs that are given the same leave the same, and each contract can be met.
-use mathlib.Core.Path.{_≡_, _∙_, refl, sym}
+use mathlib.Core.Path.{_∙_, refl, sym}
 use mathlib.Core.List.{List}
 use Prim.Native.Nat.{ℕ}
 use contract.Lifetimes.{Lfts}

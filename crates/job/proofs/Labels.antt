@@ -1,5 +1,5 @@
 -- Theorem of the job's contract: it leaves every entry of a plate as it was, with its unit and its sheet.
-use mathlib.Core.Path.{_≡_, refl, _∙_, sym, ap}
+use mathlib.Core.Path.{_≡_, refl, ap}
 use mathlib.Core.Bool.{Bool, true, false}
 use mathlib.Core.List.{List}
 use Prim.Native.Nat.{ℕ, _<_}

@@ -1,14 +1,14 @@
 -- What is read of a plate that was written: its version, its count and each entry.
 use mathlib.Core.Path.{_≡_, refl, _∙_, sym, ap}
 use mathlib.Core.Bool.{Bool, true, false, cond}
-use mathlib.Core.List.{List, [], _∷_, _++_, append-assoc}
+use mathlib.Core.List.{List, [], _++_, append-assoc}
 use mathlib.Core.Logic.{⊎-elim}
 use Prim.Native.Nat.{ℕ, zero, suc, _+_, _*_, _<_}
 use native.Mathlib.Nat.{eq-or-lt-of-le}
 use native.Mathlib.Omega.{arith}
 use lib.ListN.{length, getD, length-append}
 use lib.Seq.{getD-append-add}
-use Rattle.plate_format.specs.Format.{u16At, u32At, version, count, labelled, entrySize, entryAt, labelAt, entryOf}
+use Rattle.plate_format.specs.Format.{u16At, u32At, version, count, labelled, entrySize, labelAt, entryOf}
 use Rattle.plate_format.specs.Written.{bytes16, bytes32, headerBytes, labelBytes, entryBytes, tableOf, plateOf}
 use Rattle.plate_format.specs.declared.Entry.{Entry}
 

@@ -9,10 +9,10 @@ use native.Mathlib.Numerals.{add-one}
 use native.Mathlib.Omega.{arith}
 use lib.ListN.{length, take, drop, length-append, length-drop}
 use lib.Seq.{take-append-le, drop-append-le, drop-append-add, drop-drop, drop-length, take-length}
-use borrow.Author.Tests.{lt-ltb, le-ltb, le-leb, lt-leb, eq-eqb}
+use borrow.Author.Tests.{lt-ltb, le-ltb, le-leb, eq-eqb}
 use Rattle.picture.specs.Planes.{bytesOf}
 use Rattle.picture.specs.Refusal.{wrongSides, wrongLength}
-use Rattle.plate_format.specs.Format.{version, count, maxCount, labelled, labelAt, entrySize, largestWhole, entryAt, entryOf, bodyOffset, wrongUnit, obeys, entryObeys, allBelow, filled, isPlate}
+use Rattle.plate_format.specs.Format.{version, count, maxCount, labelled, labelAt, entrySize, largestWhole, entryOf, bodyOffset, wrongUnit, obeys, entryObeys, allBelow, filled, isPlate}
 use Rattle.plate_format.specs.Written.{headerBytes, tableOf, plateOf}
 use Rattle.plate_format.specs.declared.Entry.{Entry}
 use Rattle.plate_format.proofs.Rules.{rules, sides-are, offset-up, plate-entry}

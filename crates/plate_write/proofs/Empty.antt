@@ -1,11 +1,11 @@
 -- A plate of no pictures: its version, its count, and that it is a plate.
-use mathlib.Core.Path.{_≡_, refl}
+use mathlib.Core.Path.{_≡_}
 use mathlib.Core.Bool.{true}
 use Prim.Native.Nat.{ℕ}
 use native.Mathlib.Nat.{zero-mul}
 use native.Mathlib.Omega.{arith}
-use borrow.Author.Tests.{le-leb, eq-eqb}
-use Rattle.plate_format.specs.Format.{u16At, version, count, known, maxCount, largestWhole, entrySize, bodyOffset, allBelow, filled, isPlate}
+use borrow.Author.Tests.{le-leb}
+use Rattle.plate_format.specs.Format.{u16At, version, count, known, maxCount, largestWhole, bodyOffset, allBelow, filled, isPlate}
 use Rattle.plate_format.specs.Written.{bytes16, headerBytes}
 use Rattle.plate_format.proofs.Table.{whole-small}
 use Rattle.plate_write.specs.Added.{emptyPlate}

@@ -12,7 +12,7 @@ use Rattle.plate_format.specs.Format.{version, count, entrySize, entryAt, entry
 use Rattle.plate_format.specs.Needs.{Tabled}
 use Rattle.plate_format.specs.Written.{headerBytes, entryBytes, tableOf}
 use Rattle.plate_format.specs.declared.Entry.{Entry}
-use Rattle.plate_format.proofs.Table.{entry-room, entry-inside, same-u16, entry-same}
+use Rattle.plate_format.proofs.Table.{same-u16, entry-same}
 use Rattle.plate_format.proofs.Written.{length-header, length-table}
 use Rattle.plate_write.specs.Added.{further, entryAfter}
 use Rattle.plate_write.specs.Steps.{laidAt, Retabling, headAfter}
@@ -25,9 +25,6 @@ table-same v f g zero h = refl
 table-same v f g (suc n) h = rw (table-same v f g n (λ i l. h i (omega arith)), h n (omega arith))
 
 module _ (old : List ℕ) (ready : Retabling old) where
-  size : ℕ
-  size = entrySize (version old)
-
   -- the old entries, their bodies further on
   abbrev pub moved : ℕ → Entry
   moved i = further (entrySize (version old)) (entryOf old i)

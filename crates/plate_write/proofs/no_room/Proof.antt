@@ -1,5 +1,5 @@
 -- Each way out is one part of the definition's "or"; no sum wraps, since a plate is short and a picture's bytes fit.
-use mathlib.Core.Path.{_≡_, _∙_, ap}
+use mathlib.Core.Path.{_≡_, _∙_}
 use Prim.Native.Nat.{_+_, _≤_}
 use native.Mathlib.Omega.{arith}
 use borrow.Author.Needs.{needs}

@@ -1,10 +1,7 @@
 -- The old entries, the new one after them, and the header before them.
-use mathlib.Core.Path.{_≡_, _∙_, ap}
-use Prim.Native.Nat.{_+_, _≤_}
+use mathlib.Core.Path.{_≡_, ap}
 use native.Mathlib.Nat.{add-mul, one-mul}
-use native.Mathlib.Omega.{arith}
 use borrow.Author.Needs.{needs}
-use lib.ListN.{length}
 use Rattle.plate_format.specs.Format.{version, count, entrySize, entryAt, bodyOffset}
 use Rattle.plate_write.proofs.Retabled.{retabled}
 use Rattle.plate_write.proofs.table.retable.Statement.{statement}

@@ -1,9 +1,8 @@
 -- The first i entries are written anew, and what comes after them is as it was.
-use mathlib.Core.Path.{_≡_, refl, _∙_, sym}
+use mathlib.Core.Path.{_≡_}
 use Prim.Native.Nat.{_-_, _≤_, _<_}
 use native.Mathlib.Omega.{arith}
 use borrow.Author.Needs.{needs}
-use lib.ListN.{length}
 use Rattle.plate_format.specs.Format.{version, count, entrySize, entryOf}
 use Rattle.plate_format.specs.Written.{tableOf}
 use Rattle.plate_write.specs.Added.{further}
