@@ -2,7 +2,7 @@
 use mathlib.Core.Path.{_≡_, refl, _∙_, sym, ap}
 use mathlib.Core.Bool.{Bool, true, false, cond}
 use mathlib.Core.List.{List, _++_, append-assoc}
-use Prim.Native.Nat.{ℕ, _+_, _-_, _*_, _<_, _≤_}
+use Prim.Native.Nat.{ℕ, _+_, _-_, _<_, _≤_}
 use native.Mathlib.Nat.{add-mul, one-mul}
 use native.Mathlib.Omega.{arith}
 use lib.Dec.{ltb}
@@ -14,15 +14,15 @@ use Rattle.picture.specs.Planes.{bytesOf, laid}
 use Rattle.picture.specs.Refusal.{wrongSides}
 use Rattle.plate_format.specs.Format.{version, count, entrySize, entryAt, entryOf, bodyOffset, maxCount, wrongUnit}
 use Rattle.plate_format.specs.Needs.{Tabled}
-use Rattle.plate_format.specs.Written.{headerBytes, tableOf, plateOf}
+use Rattle.plate_format.specs.Written.{headerBytes}
 use Rattle.plate_format.specs.declared.Entry.{Entry}
 use Rattle.plate_format.proofs.Rules.{plate-tabled, plate-entry}
 use Rattle.plate_format.proofs.Table.{entry-room, whole-small, same-version, same-count, same-entry}
-use Rattle.plate_format.proofs.Written.{length-header, length-table}
 use Rattle.plate.specs.Lookup.{Beside}
 use Rattle.plate_write.specs.Added.{newEntry, further, entryAfter, added, lengthAfter}
 use Rattle.plate_write.specs.Outcome.{inUse}
 use Rattle.plate_write.specs.Steps.{laidAt, Retabling, headAfter, Adding}
+use Rattle.plate_write.proofs.Head.{first-is, head-long, added-is}
 use Rattle.plate_write.proofs.Laid.{laid-first, laid-length, laid-below, laid-next, laid-ahead, laid-copied, laid-part}
 use Rattle.plate_write.proofs.Retabled.{table-same}
 use Rattle.plate_write.proofs.Room.{plate-small, Roomy, roomy}
@@ -44,12 +44,8 @@ module _ {buffer : List ℕ} {used w h unit : ℕ} {picture : List ℕ} (ready :
   pub tabled : Tabled file
   tabled = plate-tabled file (ready .plate)
 
-  first-is : first ≡ 4 + count file * size
-  unfolding bodyOffset
-  first-is = refl
-
   pub first-low : first ≤ used
-  first-low = omega (arith, first-is, tabled .inside, file-long)
+  first-low = omega (arith, first-is file, tabled .inside, file-long)
 
   room : Roomy (length buffer) file w h
   room = roomy (length buffer) file w h (ready .room)
@@ -101,7 +97,7 @@ module _ {buffer : List ℕ} {used w h unit : ℕ} {picture : List ℕ} (ready :
     same k l = rw is (laid-below (first + size) (drop first file) buffer inside k (omega arith)) ∙ sym (getD-take used buffer k 0 (omega (arith, first-low)))
 
     table : entryAt file (count file) ≤ first
-    table = omega (arith, first-is)
+    table = omega (arith, first-is file)
 
     version-is : version now ≡ version file
     version-is = same-version now file first same table
@@ -119,7 +115,7 @@ module _ {buffer : List ℕ} {used w h unit : ℕ} {picture : List ℕ} (ready :
         record {
           tabled = record { few = omega (arith, count-is, tabled .few); inside = rw (count-is, version-is, long) (omega (arith, tabled .inside, file-long, ready .inside)) };
           few = omega (arith, count-is, few);
-          room = rw (count-is, version-is, long) (omega (arith, first-is, first-low, fits));
+          room = rw (count-is, version-is, long) (omega (arith, first-is file, first-low, fits));
           far = λ i l. far i (omega (arith, count-is));
         }
       where
@@ -141,20 +137,12 @@ module _ {buffer : List ℕ} {used w h unit : ℕ} {picture : List ℕ} (ready :
         rw (version-is, count-is)
         (ap (λ (t : List ℕ). headerBytes (version file) (count file + 1) ++ t) (table-same (version file) (entryAfter now new) (entryAfter file new) (count file + 1) (λ i _. after-same new i)))
 
-    head-long : (new : Entry) → length (headAfter file new) ≡ first + size
-    head-long new =
-        simp length-append
-        (omega (arith, length-header (version file) (count file + 1), length-table (version file) (entryAfter file new) (count file + 1), first-is, add-mul (count file) 1 size, one-mul size))
-
     front-long : (new : Entry) → length (headAfter file new ++ drop first file) ≡ used + size
-    front-long new = omega (arith, length-append (headAfter file new) (drop first file), head-long new, bodies-long, first-low)
+    front-long new = omega (arith, length-append (headAfter file new) (drop first file), head-long file new, bodies-long, first-low)
 
     -- header and table, the bodies, and the picture
     whole-is : (label : Beside) → (headAfter file (newEntry file w h label) ++ drop first file) ++ picture ≡ added file w h label picture
-    unfolding added plateOf
-    whole-is label =
-        append-assoc (headAfter file (newEntry file w h label)) (drop first file) picture
-        ∙ append-assoc (headerBytes (version file) (count file + 1)) (tableOf (version file) (entryAfter file (newEntry file w h label)) (count file + 1)) (drop first file ++ picture)
+    whole-is label = append-assoc (headAfter file (newEntry file w h label)) (drop first file) picture ∙ sym (added-is file w h label picture)
 
     pub appended : (label : Beside) {start : ℕ} {headed last : List ℕ} → start ≡ used + size →
         headed ≡ laid (headAfter now (newEntry file w h label)) now →
@@ -180,4 +168,4 @@ module _ {buffer : List ℕ} {used w h unit : ℕ} {picture : List ℕ} (ready :
             ∙ ap (λ (t : List ℕ). laid t now) (head-same new)
             ∙ sym (laid-first head now)
             ∙ ap (laidAt 0 head) is
-            ∙ laid-ahead 0 head buffer (drop first file) (first + size) (omega (arith, head-long new)) (omega (arith, head-long new, inside))
+            ∙ laid-ahead 0 head buffer (drop first file) (first + size) (omega (arith, head-long file new)) (omega (arith, head-long file new, inside))

@@ -1,9 +1,9 @@
 -- What is read of a plate with one picture more: its rules, and each of its pictures.
 use mathlib.Core.Path.{_≡_, refl, _∙_, sym, ap}
 use mathlib.Core.Bool.{Bool, true, false}
-use mathlib.Core.List.{List, _++_, append-assoc}
+use mathlib.Core.List.{List, _++_}
 use mathlib.Core.Logic.{⊎-elim}
-use Prim.Native.Nat.{ℕ, zero, suc, _+_, _-_, _*_, _<_, _≤_}
+use Prim.Native.Nat.{ℕ, zero, suc, _+_, _-_, _<_, _≤_}
 use native.Mathlib.Nat.{eq-or-lt-of-le, add-mul, one-mul}
 use native.Mathlib.Numerals.{add-one}
 use native.Mathlib.Omega.{arith}
@@ -13,11 +13,12 @@ use borrow.Author.Tests.{lt-ltb, le-ltb, le-leb, eq-eqb}
 use Rattle.picture.specs.Planes.{bytesOf}
 use Rattle.picture.specs.Refusal.{wrongSides, wrongLength}
 use Rattle.plate_format.specs.Format.{version, count, maxCount, labelled, labelAt, entrySize, largestWhole, entryOf, bodyOffset, wrongUnit, obeys, entryObeys, allBelow, filled, isPlate}
-use Rattle.plate_format.specs.Written.{headerBytes, tableOf, plateOf}
 use Rattle.plate_format.specs.declared.Entry.{Entry}
 use Rattle.plate_format.proofs.Rules.{rules, sides-are, offset-up, plate-entry}
-use Rattle.plate_format.proofs.Written.{Apt, length-header, length-table, version-read, count-read, entry-read}
+use Rattle.plate_format.proofs.Written.{Apt, version-read, count-read, entry-read}
 use Rattle.plate.specs.Lookup.{Beside}
+use Rattle.plate_write.specs.Steps.{headAfter}
+use Rattle.plate_write.proofs.Head.{head-long, added-is}
 use Rattle.plate_write.specs.Added.{further, given, newEntry, entryAfter, added, lengthAfter}
 
 -- a test that holds at each number below n
@@ -115,10 +116,6 @@ module _ {file : List ℕ} {w h : ℕ} {label : Beside} {picture : List ℕ} (ok
   new-entry-is = entry-is (count file) (omega arith) ∙ new-entry
 
   -- the bodies, shifted by one table entry
-  start : bodyOffset file 0 ≡ 4 + count file * size
-  unfolding bodyOffset
-  start = refl
-
   pub offset-is : (i : ℕ) → i ≤ count file → bodyOffset A i ≡ bodyOffset file i + size
   unfolding bodyOffset
   offset-is zero l = rw (count-more, version-kept) (omega (arith, add-mul (count file) 1 size, one-mul size))
@@ -130,17 +127,15 @@ module _ {file : List ℕ} {w h : ℕ} {label : Beside} {picture : List ℕ} (ok
 
   -- the bytes: a table one entry longer, the bodies, the picture
   front : List ℕ
-  front = headerBytes (version file) (count file + 1) ++ tableOf (version file) after (count file + 1)
+  front = headAfter file new
 
   length-front : length front ≡ bodyOffset file 0 + size
   unfolding front
-  length-front =
-      simp length-append
-      (omega (arith, length-header (version file) (count file + 1), length-table (version file) after (count file + 1), start, add-mul (count file) 1 size, one-mul size))
+  length-front = head-long file new
 
   bytes-are : A ≡ front ++ (drop (bodyOffset file 0) file ++ picture)
-  unfolding added plateOf front
-  bytes-are = sym (append-assoc (headerBytes (version file) (count file + 1)) (tableOf (version file) after (count file + 1)) (drop (bodyOffset file 0) file ++ picture))
+  unfolding front
+  bytes-are = added-is file w h label picture
 
   inside : (i : ℕ) → i ≤ count file → (bodyOffset file 0 ≤ bodyOffset file i) × (bodyOffset file i ≤ length file)
   inside i l = (offset-up file {i = 0} {n = i} (omega arith), omega (arith, offset-up file l, last))

@@ -3,6 +3,7 @@ pub mod Laid
 pub mod Room
 pub mod Settle
 pub mod Retabled
+pub mod Head
 pub mod Appended
 pub mod Back
 pub mod Empty
