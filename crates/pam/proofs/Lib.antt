@@ -7,6 +7,6 @@ pub mod Blocks
 pub mod Imports
 pub mod Exports
 pub mod Channels
-pub mod Accepted
+pub mod Taken
 pub mod Determined
 pub mod Survives

@@ -28,7 +28,7 @@ use Rattle.pam.specs.declared.reading.Imported.{Imported}
 use Rattle.pam.specs.declared.reading.Imported.the-variants as import
 use Rattle.pam.specs.declared.writing.Exported.{Exported}
 use Rattle.pam.specs.declared.writing.Exported.the-variants as export
-use Rattle.pam.proofs.Accepted.{was-read}
+use Rattle.pam.proofs.Taken.{was-read}
 use Rattle.pam.proofs.Channels.{Bytes, there-and-back, passes-inward}
 use Rattle.pam.proofs.Determined.{import-once, export-once}
 use Rattle.pam.proofs.Exports.{past-both, written}

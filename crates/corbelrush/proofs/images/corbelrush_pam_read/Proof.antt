@@ -8,7 +8,7 @@ use Rattle.picture.specs.Sizes.{Sides}
 use Rattle.picture.proofs.Sizes.{full-sized, room-is}
 use Rattle.pam.specs.Import.{importOutcome, importAnswer}
 use Rattle.pam.specs.declared.reading.Imported.{Imported}
-use Rattle.pam.proofs.Accepted.{was-read}
+use Rattle.pam.proofs.Taken.{was-read}
 use Rattle.corbelrush.specs.Images.{readIn}
 use Rattle.corbelrush.proofs.images.corbelrush_pam_read.Statement.{statement}
 use Rattle.corbelrush.proofs.images.corbelrush_pam_read.Tie as tie
