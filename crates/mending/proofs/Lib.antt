@@ -7,7 +7,7 @@ pub mod Passing
 pub mod Rising
 pub mod Conditions
 pub mod Restores
-pub mod Accepted
+pub mod Taken
 pub mod Determined
 pub mod Promised
 pub mod Examples

@@ -25,7 +25,7 @@ use Rattle.mending.specs.Outcome.{MendLeft, mendLeft}
 use Rattle.mending.specs.declared.mender.Mended.{Mended}
 use Rattle.mending.specs.declared.mender.Mended.the-variants.{Count}
 use Rattle.mending.proofs.Lowered.{mended-at, length-mended}
-use Rattle.mending.proofs.Accepted.{MendAccepted, mend-accepted, again, old-again, passes-check}
+use Rattle.mending.proofs.Taken.{MendAccepted, mend-accepted, again, old-again, passes-check}
 use Rattle.mending.proofs.Determined.{mend-once}
 use Rattle.mending.proofs.mender.mend.Reads as mend
 use Rattle.mending.proofs.mender.mend.Kinds as mend-kinds
