@@ -31,8 +31,8 @@ use Rattle.drop_shadow.specs.declared.Recipe.{Recipe}
 use Rattle.pixels.specs.Channels.{exceeds, premultiply}
 use Rattle.grading.specs.Premultiplied.{foundAt, firstFrom, scanned, checked}
 use Rattle.grading.specs.Sampling.{viewRefusal, sampled}
-use Rattle.plate_format.specs.Format.{u16At, u32At, newest, known, maxCount, labelled, entrySize, largestSide, largestWhole, labelAt, entryOf, bodyOffset, wrongSidesOf, wrongUnit, obeys, allBelow, filled, isPlate}
-use Rattle.plate.specs.Lookup.{lookedUp, beside, labelledUp}
+use Rattle.plate_format.specs.Format.{u16At, u32At, newest, knownTo, maxCount, labelled, entrySize, largestSide, larger, largestWhole, labelAt, entryOf, bodyOffset, wrongSidesOf, wrongUnit, obeys, allBelow, filled, isPlateTo}
+use Rattle.plate.specs.Lookup.{lookedUpTo, lookedUp, beside, labelledUpTo, labelledUp}
 use Rattle.job.specs.Job as job
 
 -- the shadow alone of one pixel of alpha 255: red, half opaque, where the pixel is
@@ -69,14 +69,14 @@ abbrev file : List ℕ
 file = 1 ∷ 0 ∷ 1 ∷ 0 ∷ 1 ∷ 0 ∷ 1 ∷ 0 ∷ 16 ∷ 0 ∷ 0 ∷ 0 ∷ 4 ∷ 0 ∷ 0 ∷ 0 ∷ 10 ∷ 20 ∷ 30 ∷ 255 ∷ []
 
 first-picture : lookedUp file 0 ≡ answered 0 (record { width = 1; height = 1; offset = 16; length = 4 })
-unfolding lookedUp settled firstOf firstElse isPlate filled allBelow obeys wrongUnit wrongSidesOf bodyOffset entryOf labelAt largestWhole largestSide entrySize labelled maxCount known newest u32At u16At zeroOrAbove wrongLength maxSide
+unfolding lookedUpTo settled firstOf firstElse isPlateTo filled allBelow obeys wrongUnit wrongSidesOf bodyOffset entryOf labelAt larger largestWhole largestSide entrySize labelled maxCount knownTo newest u32At u16At zeroOrAbove wrongLength maxSide
 first-picture = refl
 
 -- of version 1: no unit and no sheet
 no-label : labelledUp file 0 ≡ answered 0 (beside 0 0)
-unfolding labelledUp settled firstOf firstElse isPlate filled allBelow obeys wrongUnit wrongSidesOf bodyOffset entryOf labelAt largestWhole largestSide entrySize labelled maxCount known newest u32At u16At zeroOrAbove wrongLength maxSide
+unfolding labelledUpTo settled firstOf firstElse isPlateTo filled allBelow obeys wrongUnit wrongSidesOf bodyOffset entryOf labelAt larger largestWhole largestSide entrySize labelled maxCount knownTo newest u32At u16At zeroOrAbove wrongLength maxSide
 no-label = refl
 
 one-body : job.jobOutcome job.plateBlur file (7 ∷ 7 ∷ 7 ∷ 7 ∷ 7 ∷ []) ≡ answered 0 (lent file (0 ∷ 0 ∷ 0 ∷ 0 ∷ 7 ∷ []))
-unfolding job.jobOutcome job.jobbedBelow job.longestBelow job.plateBlur settled firstOf firstElse isPlate filled allBelow obeys wrongUnit wrongSidesOf bodyOffset entryOf labelAt largestWhole largestSide entrySize labelled maxCount known newest u32At u16At zeroOrAbove wrongLength maxSide cleared laid blurredOrKept blurred painted chan build blur halve double convolve sample place taps tap toByte roundHalfUp lt add mul ofInt
+unfolding job.jobOutcomeTo job.jobbedBelow job.longestBelow job.plateBlur settled firstOf firstElse isPlateTo filled allBelow obeys wrongUnit wrongSidesOf bodyOffset entryOf labelAt larger largestWhole largestSide entrySize labelled maxCount knownTo newest u32At u16At zeroOrAbove wrongLength maxSide cleared laid blurredOrKept blurred painted chan build blur halve double convolve sample place taps tap toByte roundHalfUp lt add mul ofInt
 one-body = refl

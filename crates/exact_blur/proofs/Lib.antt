@@ -4,5 +4,6 @@ pub mod Stages
 pub mod Passes
 pub mod Near
 pub mod Graded
+pub mod Reach
 pub mod Apart
 pub mod Sharp

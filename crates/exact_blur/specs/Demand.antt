@@ -11,13 +11,14 @@ use borrow.Table.Referent.{fInt}
 use denote.Ref.{now}
 use denote.Triple.Clauses.{AtExit}
 use lib.Ieee.{Float}
-use lib.ListN.{getD}
+use lib.ListN.{length, getD}
 use Rattle.picture.specs.Planes.{chan}
 use Rattle.picture.specs.Modes.{modeOf}
+use Rattle.picture.specs.Refusal.{firstOf}
 use Rattle.picture.specs.declared.EdgeMode.{EdgeMode}
 use Rattle.binary32.specs.Grid.{numerators, allOnGrid, sum}
 use Rattle.gaussian_blur.specs.Blurred.{blurred}
-use Rattle.gaussian_blur.specs.Outcome.{aboveZero}
+use Rattle.gaussian_blur.specs.Outcome.{blurChecks, aboveZero}
 use Rattle.gaussian_blur.proofs.blur.Reads as blur
 use Rattle.gaussian_blur.proofs.blur.Kinds as kinds
 use Rattle.exact_blur.specs.Exact.{exactBlur, scaleOf}
@@ -66,3 +67,17 @@ OfTheEntry =
     let strength = a .1 .1 .1 .1 .1 .1 .0 in
     let edge = a .1 .1 .1 .1 .1 .1 .1 .0 in
     aboveZero strength ≡ true → GridKernel weights → LentBytes p → NearExact (modeOf edge) weights n w h p (now (left .0))
+
+-- up to 14 decimations: a call that is accepted with none is accepted with n of them, and what it leaves is within 2n+1 steps
+abbrev pub UpTo14 : Type 0
+UpTo14 =
+    (κs : Lfts 3) (a : Dens κs kinds.ps) (r : ℕ) (left : AtExit (endedOf 3 kinds.ps kinds.r) κs) → blur.Post κs a r left →
+    let p = now (a .0) in
+    let w = a .1 .0 in
+    let h = a .1 .1 .0 in
+    let weights = now (a .1 .1 .1 .1 .0) in
+    let n = a .1 .1 .1 .1 .1 .0 in
+    let strength = a .1 .1 .1 .1 .1 .1 .0 in
+    let edge = a .1 .1 .1 .1 .1 .1 .1 .0 in
+    0 ≡ firstOf (blurChecks (length p) w h (length (now (a .1 .1 .1 .0))) weights 0 strength edge) → n ≤ 14 →
+    aboveZero strength ≡ true → GridKernel weights → LentBytes p → (r ≡ 0) × NearExact (modeOf edge) weights n w h p (now (left .0))

@@ -20,7 +20,7 @@ use Rattle.gaussian_blur.specs.Outcome.{blurredOrKept}
 use Rattle.plate_format.specs.Format.{count, entryAt, entryOf, bodyOffset, isPlate}
 use Rattle.plate_format.specs.declared.Entry.{Entry}
 use Rattle.plate_format.proofs.Rules.{rules, plate-tabled, plate-entry}
-use Rattle.job.specs.Job.{plateWeights, plateBlur, bodyOf, blurredBody, jobbedBelow, jobbed, jobOutcome}
+use Rattle.job.specs.Job.{plateWeights, plateBlur, bodyOf, blurredBody, jobbedBelow, jobbed, jobOutcomeTo, jobOutcome}
 use Rattle.job.proofs.After.{length-jobbed}
 use Rattle.job.proofs.Fixed.{keeps}
 
@@ -73,7 +73,7 @@ module _ (file : List ℕ) (plate : isPlate file ≡ true) where
 
 -- what a call that answers 0 leaves
 pub job-leaves : (file scratch : List ℕ) (r : ℕ) (left : Lent) → answered r left ≡ jobOutcome plateBlur file scratch → r ≡ 0 → EachBlurred file (left .picture)
-unfolding jobOutcome
+unfolding jobOutcomeTo
 job-leaves file scratch r left e z =
     let t = read _ _ _ r left e in
     let plate = not-false _ (passed _ _ (lit< tt) (sym z ∙ t .number) .0) in

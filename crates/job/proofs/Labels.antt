@@ -12,7 +12,7 @@ use borrow.Author.Tests.{eqb-true, eqb-false}
 use Rattle.picture.specs.Answer.{answered, Lent, lent}
 use Rattle.picture.proofs.Settled.{read}
 use Rattle.plate_format.specs.Format.{count, entryOf, isPlate}
-use Rattle.job.specs.Job.{plateBlur, jobbed, jobOutcome}
+use Rattle.job.specs.Job.{plateBlur, jobbed, jobOutcomeTo, jobOutcome}
 use Rattle.job.proofs.After.{after-all, entry-kept}
 use Rattle.job.proofs.Fixed.{keeps}
 use Rattle.job.proofs.plate_job.Reads as job
@@ -24,7 +24,7 @@ jobbed-entry file plate i l = rw (← after-all plateBlur keeps file plate) (ent
 -- done or refused
 left-entry : (file scratch : List ℕ) (r : ℕ) (left : Lent) → answered r left ≡ jobOutcome plateBlur file scratch → isPlate file ≡ true →
     (i : ℕ) → i < count file → entryOf (left .picture) i ≡ entryOf file i
-unfolding jobOutcome
+unfolding jobOutcomeTo
 left-entry file scratch r left e plate i l = by (eqb r 0) refl
   where
     by : (b : Bool) → eqb r 0 ≡ b → entryOf (left .picture) i ≡ entryOf file i

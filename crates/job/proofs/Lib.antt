@@ -9,3 +9,4 @@ pub mod Turns
 pub mod Fixed
 pub mod Body
 pub mod Bodies
+pub mod Earlier

@@ -10,21 +10,21 @@ use Rattle.picture.specs.Planes.{cleared}
 use Rattle.picture.specs.Answer.{Answer, answered, Lent, lent, settled}
 use Rattle.picture.specs.Refusal.{firstElse, firstOf}
 use Rattle.plate_format.specs.Format.{count, isPlate}
-use Rattle.job.specs.Job.{BodyBlur, longestBody, jobbed, jobOutcome}
+use Rattle.job.specs.Job.{BodyBlur, longestBody, jobbed, jobOutcomeTo, jobOutcome}
 use Rattle.job.proofs.Lengths.{longest-inside}
 
 module _ (blur : BodyBlur) (file scratch : List ℕ) where
   pub job-broken : isPlate file ≡ false → answered 10 (lent file scratch) ≡ jobOutcome blur file scratch
-  unfolding jobOutcome firstOf firstElse settled
+  unfolding jobOutcomeTo firstOf firstElse settled
   job-broken p = rw p
 
   module _ (plate : isPlate file ≡ true) where
     pub job-short : length scratch < longestBody file → answered 3 (lent file scratch) ≡ jobOutcome blur file scratch
-    unfolding jobOutcome firstOf firstElse settled
+    unfolding jobOutcomeTo firstOf firstElse settled
     job-short l = rw (plate, lt-ltb (length scratch) (longestBody file) l)
 
     pub job-done : longestBody file ≤ length scratch → answered 0 (lent (jobbed blur file) (cleared (longestBody file) scratch)) ≡ jobOutcome blur file scratch
-    unfolding jobOutcome firstOf firstElse settled
+    unfolding jobOutcomeTo firstOf firstElse settled
     job-done l = rw (plate, le-ltb (length scratch) (longestBody file) l)
 
   -- a scratch as long as the file has room for any body: then 10 is the one refusal

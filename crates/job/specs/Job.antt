@@ -12,7 +12,7 @@ use Rattle.picture.specs.Refusal.{Check, check, firstOf}
 use Rattle.picture.specs.declared.EdgeMode.the-variants.{Duplicate}
 use Rattle.binary32.specs.Ranges.{one32}
 use Rattle.gaussian_blur.specs.Outcome.{blurredOrKept}
-use Rattle.plate_format.specs.Format.{count, entryOf, bodyOffset, isPlate}
+use Rattle.plate_format.specs.Format.{count, newest, entryOf, bodyOffset, isPlateTo}
 
 -- the blur of a body: its width, its height, its bytes, and the bytes it becomes
 abbrev pub BodyBlur : Type 0
@@ -52,11 +52,15 @@ jobbedBelow blur file (suc i) = jobbedBelow blur file i ++ blurredBody blur file
 abbrev pub jobbed : BodyBlur → List ℕ → List ℕ
 jobbed blur file = jobbedBelow blur file (count file)
 
--- Plate job: 10, then 3
-abbrev pub jobChecks : List ℕ → List ℕ → List Check
-jobChecks file scratch = check 10 (not (isPlate file)) ∷ check 3 (ltb (length scratch) (longestBody file)) ∷ []
+-- Plate job, of a reader whose newest version is r: 10, then 3
+abbrev pub jobChecksTo : ℕ → List ℕ → List ℕ → List Check
+jobChecksTo r file scratch = check 10 (not (isPlateTo r file)) ∷ check 3 (ltb (length scratch) (longestBody file)) ∷ []
 
 -- the first refusal; or every body blurred, and the scratch zero where it was used
-unfoldable pub jobOutcome : BodyBlur → List ℕ → List ℕ → Answer Lent
-jobOutcome blur file scratch =
-    settled (firstOf (jobChecks file scratch)) (lent file scratch) (lent (jobbed blur file) (cleared (longestBody file) scratch))
+unfoldable pub jobOutcomeTo : ℕ → BodyBlur → List ℕ → List ℕ → Answer Lent
+jobOutcomeTo r blur file scratch =
+    settled (firstOf (jobChecksTo r file scratch)) (lent file scratch) (lent (jobbed blur file) (cleared (longestBody file) scratch))
+
+-- and of this release
+abbrev pub jobOutcome : BodyBlur → List ℕ → List ℕ → Answer Lent
+jobOutcome blur file scratch = jobOutcomeTo newest blur file scratch

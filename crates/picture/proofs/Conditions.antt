@@ -9,7 +9,7 @@ use lib.Dec.{eqb, ltb}
 use borrow.Author.Tests.{eqb-true, eqb-false, eq-eqb, ne-eqb, ltb-false, le-ltb, not-false}
 use Rattle.picture.specs.Planes.{bytesOf}
 use Rattle.picture.specs.Sizes.{maxSide}
-use Rattle.picture.specs.Refusal.{Check, firstElse, firstOf, zeroOrAbove, wrongSides, wrongLength, tooShort, maxTaps, wrongTaps, maxDecimations, tooDeep, wrongEdge}
+use Rattle.picture.specs.Refusal.{Check, firstElse, firstOf, zeroOrAbove, sidesOutside, wrongSides, wrongLength, tooShort, maxTaps, wrongTaps, maxDecimations, tooDeep, wrongEdge}
 use Rattle.picture.proofs.Tests.{neither}
 use Rattle.picture.proofs.Passed.{passed}
 
@@ -51,10 +51,14 @@ counted most count =
     above : (count ≡ 0 → ⊥) → 1 ≤ count
     above f = omega arith
 
--- 1: both sides are from 1 to the largest
+-- both sides are from 1 to the largest there may be
+pub sides-inside : (most w h : ℕ) → (sidesOutside most w h ≡ false) ↔ (Counted most w × Counted most h)
+sides-inside most w h = both-pass (counted most w) (counted most h)
+
+-- 1: to the largest side
 pub right-sides : (w h : ℕ) → (wrongSides w h ≡ false) ↔ (Counted maxSide w × Counted maxSide h)
 unfolding wrongSides
-right-sides w h = both-pass (counted maxSide w) (counted maxSide h)
+right-sides w h = sides-inside maxSide w h
 
 -- 2: exactly 4wh bytes
 pub right-length : (len w h : ℕ) → (wrongLength len w h ≡ false) ↔ (len ≡ bytesOf w h)

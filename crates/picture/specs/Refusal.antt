@@ -27,9 +27,13 @@ firstOf checks = firstElse checks 0
 unfoldable pub zeroOrAbove : ℕ → ℕ → Bool
 zeroOrAbove most count = eqb count 0 || ltb most count
 
--- 1: w or h is 0 or above 4096
+-- sides of which one is 0 or above the largest there may be
+abbrev pub sidesOutside : ℕ → ℕ → ℕ → Bool
+sidesOutside most w h = zeroOrAbove most w || zeroOrAbove most h
+
+-- 1: w or h is 0 or above the largest side
 unfoldable pub wrongSides : ℕ → ℕ → Bool
-wrongSides w h = zeroOrAbove maxSide w || zeroOrAbove maxSide h
+wrongSides w h = sidesOutside maxSide w h
 
 -- 2: the picture is not exactly 4wh bytes
 unfoldable pub wrongLength : ℕ → ℕ → ℕ → Bool
@@ -43,15 +47,15 @@ tooShort len w h = ltb len (bytesOf w h)
 unfoldable pub maxTaps : ℕ
 maxTaps = 33
 
--- 4: the tap count is 0 or above 33
+-- 4: the tap count is 0 or above the most taps
 unfoldable pub wrongTaps : ℕ → Bool
 wrongTaps taps = zeroOrAbove maxTaps taps
 
 -- the most decimations
 unfoldable pub maxDecimations : ℕ
-maxDecimations = 12
+maxDecimations = 14
 
--- 6: n is above 12
+-- 6: n is above the most decimations
 unfoldable pub tooDeep : ℕ → Bool
 tooDeep n = ltb maxDecimations n
 

@@ -9,7 +9,7 @@ use Rattle.picture.specs.declared.LevelSize.{LevelSize}
 
 -- the largest side of a picture
 unfoldable pub maxSide : ℕ
-maxSide = 4096
+maxSide = 16384
 
 -- the largest side that the arithmetic of a level has room for
 unfoldable pub sideRoom : ℕ

@@ -3,7 +3,7 @@ ghost use mathlib.Core.Path.{_≡_};
 ghost use mathlib.Core.Bool.{true, false, cond};
 ghost use Rattle.picture.specs.Sizes.{fullSize, levelZero, halfLevel, fullBytes, levelBytes, FullSized, Sized};
 ghost use Rattle.picture.specs.Modes.{modeOf};
-ghost use Rattle.picture.specs.Refusal.{firstElse, zeroOrAbove, wrongSides, wrongLength, tooShort, wrongTaps, tooDeep, wrongEdge, pictureChecks};
+ghost use Rattle.picture.specs.Refusal.{firstElse, zeroOrAbove, sidesOutside, wrongSides, wrongLength, tooShort, wrongTaps, tooDeep, wrongEdge, pictureChecks};
 
 mod buffers;
 
@@ -59,11 +59,11 @@ pub const TOO_DEEP_TO_SHARE: u32 = 21;
 pub const OUTSIDE: u32 = 22;
 
 // The largest side of a picture, the most taps of a kernel and the most decimations.
-pub const MAX_SIDE: usize = 4096;
+pub const MAX_SIDE: usize = 16384;
 
 pub const MAX_TAPS: usize = 33;
 
-pub const MAX_DECIMATIONS: u32 = 12;
+pub const MAX_DECIMATIONS: u32 = 14;
 
 // A size in full pixels.
 pub struct FullSize {
@@ -198,14 +198,21 @@ pub fn zero_or_above(most: usize, count: usize) -> bool
     most < count
 }
 
+// Whether one of these sides is 0 or above the largest there may be.
+pub fn sides_outside(most: usize, w: u32, h: u32) -> bool
+    ensures { λ r. ⌜ r ≡ sidesOutside most w h ⌝ }
+{
+    if zero_or_above(most, w as usize) {
+        return true;
+    }
+    zero_or_above(most, h as usize)
+}
+
 // Refusal 1's condition.
 pub fn wrong_sides(w: u32, h: u32) -> bool
     ensures { λ r. ⌜ r ≡ wrongSides w h ⌝ }
 {
-    if zero_or_above(MAX_SIDE, w as usize) {
-        return true;
-    }
-    zero_or_above(MAX_SIDE, h as usize)
+    sides_outside(MAX_SIDE, w, h)
 }
 
 // Refusal 2's condition. No product wraps, whatever the sides are.

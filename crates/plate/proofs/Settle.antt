@@ -13,7 +13,7 @@ use Rattle.picture.proofs.Answers.{refused, done}
 use Rattle.picture.proofs.Tests.{neither}
 use Rattle.plate_format.specs.Format.{version, count, labelled, labelAt, entryOf, wrongUnit, isPlate}
 use Rattle.plate_format.proofs.Rules.{Obeyed, plate-entry}
-use Rattle.plate.specs.Lookup.{Picture, nothing, pictureOf, lookupChecks, lookupNumber, lookedUp}
+use Rattle.plate.specs.Lookup.{Picture, nothing, pictureOf, lookupChecks, lookupNumber, lookedUpTo, lookedUp}
 use Rattle.plate.specs.declared.Refusal.{Refusal}
 use Rattle.plate.specs.declared.Refusal.the-variants.{BrokenPlate, NoPicture}
 
@@ -53,12 +53,12 @@ module _ (file : List ℕ) (index : ℕ) where
     listed p l = done (firstOf (lookupChecks file index)) before after (sym (passes p (lt-leb (count file) index l)))
 
   pub there : isPlate file ≡ true → index < count file → answered 0 (pictureOf file index) ≡ lookedUp file index
-  unfolding lookedUp
+  unfolding lookedUpTo
   there p l = listed nothing (pictureOf file index) p l
 
   -- what holds of every refusal, and of a picture that is there, holds of the answer
   pub by-case : (P : Answer Picture → Type 0) → ((n : ℕ) → P (answered n nothing)) → (Obeyed file index → P (answered 0 (pictureOf file index))) → P (lookedUp file index)
-  unfolding lookedUp
+  unfolding lookedUpTo
   by-case P some found = by-plate (isPlate file) refl
     where
       by-index : (p : isPlate file ≡ true) (b : Bool) → leb (count file) index ≡ b → P (lookedUp file index)

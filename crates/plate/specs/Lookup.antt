@@ -9,7 +9,7 @@ use denote.Ref.{RefT, ptr, now}
 use Rattle.picture.specs.Answer.{Answer, answered, settled}
 use Rattle.picture.specs.Refusal.{Check, check, firstOf}
 use Rattle.picture.specs.Slice.{SlicePart}
-use Rattle.plate_format.specs.Format.{count, entryOf, bodyOffset, isPlate}
+use Rattle.plate_format.specs.Format.{count, newest, entryOf, bodyOffset, isPlateTo, isPlate}
 use Rattle.plate.specs.declared.Refusal.{Refusal}
 use Rattle.plate.specs.declared.Refusal.the-variants.{BrokenPlate, NoPicture}
 use Rattle.plate.specs.declared.Stretch.{Stretch}
@@ -43,13 +43,20 @@ pictureOf file i =
       length = entryOf file i .length;
     }
 
--- Picture of a plate: 10, then 12
-abbrev pub lookupChecks : List ℕ → ℕ → List Check
-lookupChecks file index = check 10 (not (isPlate file)) ∷ check 12 (leb (count file) index) ∷ []
+-- Picture of a plate, to a reader whose newest version is r: 10, then 12
+abbrev pub lookupChecksTo : ℕ → List ℕ → ℕ → List Check
+lookupChecksTo r file index = check 10 (not (isPlateTo r file)) ∷ check 12 (leb (count file) index) ∷ []
 
 -- the first refusal, or the picture of that index
-unfoldable pub lookedUp : List ℕ → ℕ → Answer Picture
-lookedUp file index = settled (firstOf (lookupChecks file index)) nothing (pictureOf file index)
+unfoldable pub lookedUpTo : ℕ → List ℕ → ℕ → Answer Picture
+lookedUpTo r file index = settled (firstOf (lookupChecksTo r file index)) nothing (pictureOf file index)
+
+-- and both to this release
+abbrev pub lookupChecks : List ℕ → ℕ → List Check
+lookupChecks file index = lookupChecksTo newest file index
+
+abbrev pub lookedUp : List ℕ → ℕ → Answer Picture
+lookedUp file index = lookedUpTo newest file index
 
 -- the values beside a picture: its unit (1 milliohm, 2 microohm, 0 none) and its sheet
 pub record Beside : Type 0 where
@@ -60,8 +67,11 @@ abbrev pub beside : ℕ → ℕ → Beside
 beside unit sheet = record { unit = unit; sheet = sheet }
 
 -- Label of a picture: the same checks; unit and sheet of that index, which are 0 in version 1 and where it is refused
-unfoldable pub labelledUp : List ℕ → ℕ → Answer Beside
-labelledUp file index = settled (firstOf (lookupChecks file index)) (beside 0 0) (beside (entryOf file index .unit) (entryOf file index .sheet))
+unfoldable pub labelledUpTo : ℕ → List ℕ → ℕ → Answer Beside
+labelledUpTo r file index = settled (firstOf (lookupChecksTo r file index)) (beside 0 0) (beside (entryOf file index .unit) (entryOf file index .sheet))
+
+abbrev pub labelledUp : List ℕ → ℕ → Answer Beside
+labelledUp file index = labelledUpTo newest file index
 
 -- the number of each unit
 abbrev pub unitNumber : Unit → ℕ

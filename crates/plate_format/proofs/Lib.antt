@@ -4,3 +4,4 @@ pub mod Table
 pub mod Rules
 pub mod Written
 pub mod Worked
+pub mod Earlier

@@ -1,23 +1,51 @@
 -- Laws of the plate rules: what each says of a plate.
 use mathlib.Core.Path.{_≡_, refl, _∙_, sym}
-use mathlib.Core.Bool.{true, false, and-true}
+use mathlib.Core.Bool.{Bool, true, false, cond, and-true}
+use mathlib.Core.Logic.{_⊎_, inl, inr, ⊎-elim}
 use mathlib.Core.List.{List}
-use Prim.Native.Nat.{ℕ, _+_, _<_, _≤_}
+use Prim.Native.Nat.{ℕ, _+_, _*_, _<_, _≤_}
 use native.Mathlib.Decide.{le-ind}
+use native.Mathlib.Nat.{mul-le-mul}
 use native.Mathlib.Omega.{arith}
 use lib.ListN.{length}
 use borrow.Author.Tests.{leb-true, le-leb, eqb-true, not-true, not-false}
 use Rattle.picture.specs.Planes.{bytesOf}
+use Rattle.picture.specs.Sizes.{maxSide}
 use Rattle.picture.specs.Refusal.{wrongSides, wrongLength}
-use Rattle.plate_format.specs.Format.{version, count, known, maxCount, largestSide, largestWhole, entryAt, entryOf, bodyOffset, wrongSidesOf, wrongUnit, obeys, entryObeys, filled, isPlate}
+use Rattle.picture.proofs.Conditions.{Counted, sides-inside, right-sides}
+use Rattle.plate_format.specs.Format.{version, count, known, maxCount, larger, largestSide, largestWhole, entryAt, entryOf, bodyOffset, wrongSidesOf, wrongUnit, obeys, entryObeys, filled, isPlateTo, isPlate}
 use Rattle.plate_format.specs.Needs.{Tabled}
-use Rattle.plate_format.specs.declared.Entry.{Entry}
 use Rattle.plate_format.proofs.Tests.{both, all-at}
 
--- the sides' limits are refusal 1's
-pub sides-are : (v : ℕ) (e : Entry) → wrongSidesOf v e ≡ wrongSides (e .width) (e .height)
-unfolding wrongSidesOf largestSide wrongSides
-sides-are v e = refl
+-- a version's largest side is refusal 1's, or one that makes more bytes than its plates have
+side-of : (v : ℕ) → (largestSide v ≤ maxSide) × ((maxSide ≤ largestSide v) ⊎ (largestWhole v ≤ 4 * largestSide v))
+unfolding largestSide largestWhole maxSide
+side-of v = by (larger v)
+  where
+    by : (b : Bool) → (cond b 16384 4096 ≤ 16384) × ((16384 ≤ cond b 16384 4096) ⊎ (cond b 16777216 16384 ≤ 4 * cond b 16384 4096))
+    by true = (omega arith, inl (omega arith))
+    by false = (omega arith, inr (omega arith))
+
+-- sides that a version lets through pass check 1
+pub sides-of : (v w h : ℕ) → wrongSidesOf v w h ≡ false → wrongSides w h ≡ false
+unfolding wrongSidesOf
+sides-of v w h o = let s = sides-inside (largestSide v) w h .0 o in right-sides w h .1 (lower (s .0), lower (s .1))
+  where
+    lower : {s : ℕ} → Counted (largestSide v) s → Counted maxSide s
+    lower c = record { low = c .low; high = omega (arith, c .high, side-of v .0) }
+
+-- a side above a version's largest makes more bytes than its plates have: a version lets through sides that pass check 1, of a body that its plates have room for
+pub wide-is-long : (v w h : ℕ) → wrongSides w h ≡ false → bytesOf w h ≤ largestWhole v → wrongSidesOf v w h ≡ false
+unfolding wrongSidesOf
+wide-is-long v w h o l =
+    let s = right-sides w h .0 o in
+    let m = largestSide v in
+    let wide = mul-le-mul {n₁ = w} {m₁ = 1} {n₂ = w} {m₂ = h} (omega arith) (s .1 .low) in
+    let high = mul-le-mul {n₁ = 1} {m₁ = h} {n₂ = w} {m₂ = h} (s .0 .low) (omega arith) in
+    let below : (w ≤ m) × (h ≤ m) =
+    ⊎-elim (λ (r : maxSide ≤ m). (omega (arith, s .0 .high), omega (arith, s .1 .high)))
+    (λ (r : largestWhole v ≤ 4 * m). (omega (arith, wide), omega (arith, high))) (side-of v .1) in
+    sides-inside m w h .1 (record { low = s .0 .low; high = below .0 }, record { low = s .1 .low; high = below .1 })
 
 -- a body starts where an earlier one does, at the earliest
 pub offset-up : (file : List ℕ) {i n : ℕ} → i ≤ n → bodyOffset file i ≤ bodyOffset file n
@@ -43,7 +71,7 @@ module _ (file : List ℕ) where
     pub whole : length file ≤ largestWhole (version file)
 
   pub rules : isPlate file ≡ true → Rules
-  unfolding isPlate
+  unfolding isPlateTo
   rules h =
       let w = both _ _ h in
       let f = both _ _ (w .0) in
@@ -57,11 +85,12 @@ module _ (file : List ℕ) where
 
   -- where the other rules are obeyed, the entries and the bodies decide
   pub decides : known (version file) ≡ true → count file ≤ maxCount → length file ≤ largestWhole (version file) → filled file ≡ isPlate file
-  unfolding isPlate
+  unfolding isPlateTo
   decides k f w = rw (k, le-leb (count file) maxCount f, le-leb (length file) (largestWhole (version file)) w, and-true (filled file))
 
   -- what an entry of a plate obeys
   pub record Obeyed (i : ℕ) : Type 0 where
+    pub bounded : wrongSidesOf (version file) (entryOf file i .width) (entryOf file i .height) ≡ false
     pub sides : wrongSides (entryOf file i .width) (entryOf file i .height) ≡ false
     pub long : entryOf file i .length ≡ bytesOf (entryOf file i .width) (entryOf file i .height)
     pub named : wrongUnit (version file) (entryOf file i .unit) ≡ false
@@ -82,7 +111,8 @@ module _ (file : List ℕ) where
         let u = both _ _ (o .0) in
         let s = both _ _ (u .0) in
         record {
-          sides = sym (sides-are (version file) e) ∙ not-true _ (s .0);
+          bounded = not-true _ (s .0);
+          sides = sides-of (version file) (e .width) (e .height) (not-true _ (s .0));
           long = eqb-true _ _ (not-false _ (not-true _ (s .1)));
           named = not-true _ (u .1);
           starts = eqb-true _ _ (o .1);

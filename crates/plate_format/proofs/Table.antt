@@ -11,7 +11,7 @@ use borrow.Author.Tests.{ltb-false, not-true}
 use Rattle.picture.specs.Refusal.{zeroOrAbove}
 use Rattle.picture.proofs.Tests.{neither}
 use Rattle.picture.proofs.Planes.{pixel-fits}
-use Rattle.plate_format.specs.Format.{u16At, u32At, version, count, newest, known, labelled, entrySize, largestWhole, entryAt, labelAt, entryOf}
+use Rattle.plate_format.specs.Format.{u16At, u32At, version, count, knownTo, newest, known, labelled, entrySize, larger, largestWhole, entryAt, labelAt, entryOf}
 
 -- an entry has 16 bytes with a label and 12 without one
 pub with-label : (v : ℕ) → labelled v ≡ true → entrySize v ≡ 16
@@ -31,12 +31,16 @@ entry-room v = by (labelled v) refl
 
 -- a version that there is has room in two bytes, and its plates in four
 pub known-small : (v : ℕ) → known v ≡ true → v < 65536
-unfolding known newest zeroOrAbove
-known-small v h = omega (arith, ltb-false 2 v (neither (eqb v 0) (ltb 2 v) (not-true (eqb v 0 || ltb 2 v) h) .1))
+unfolding knownTo newest zeroOrAbove
+known-small v h = omega (arith, ltb-false 3 v (neither (eqb v 0) (ltb 3 v) (not-true (eqb v 0 || ltb 3 v) h) .1))
 
 pub whole-small : (v : ℕ) → (4 ≤ largestWhole v) × (largestWhole v ≤ 16777216)
 unfolding largestWhole
-whole-small v = (omega arith, omega arith)
+whole-small v = by (larger v)
+  where
+    by : (b : Bool) → (4 ≤ cond b 16777216 16384) × (cond b 16777216 16384 ≤ 16777216)
+    by true = (omega arith, omega arith)
+    by false = (omega arith, omega arith)
 
 pub place-fits : (i v : ℕ) → i < 65536 → i * entrySize v ≤ 4294967296
 place-fits i v l = mul-le-mul {n₁ = i} {m₁ = entrySize v} {n₂ = 65536} {m₂ = 65536} (omega arith) (entry-room v .1)

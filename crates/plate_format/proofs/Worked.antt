@@ -7,11 +7,11 @@ use native.Mathlib.Nat.{zero-mul}
 use lib.ListN.{length}
 use Rattle.picture.specs.Refusal.{zeroOrAbove, wrongLength}
 use Rattle.picture.specs.Sizes.{maxSide}
-use Rattle.plate_format.specs.Format.{u16At, u32At, count, newest, known, maxCount, labelled, labelAt, wrongUnit, entrySize, largestSide, largestWhole, entryOf, bodyOffset, wrongSidesOf, obeys, allBelow, filled, isPlate}
+use Rattle.plate_format.specs.Format.{u16At, u32At, count, knownTo, newest, maxCount, labelled, labelAt, wrongUnit, entrySize, larger, largestSide, largestWhole, entryOf, bodyOffset, wrongSidesOf, obeys, allBelow, filled, isPlateTo, isPlate}
 use Rattle.plate_format.proofs.Rules.{rules}
 
 pub worked : isPlate (1 ∷ 0 ∷ 1 ∷ 0 ∷ 1 ∷ 0 ∷ 1 ∷ 0 ∷ 16 ∷ 0 ∷ 0 ∷ 0 ∷ 4 ∷ 0 ∷ 0 ∷ 0 ∷ 10 ∷ 20 ∷ 30 ∷ 255 ∷ []) ≡ true
-unfolding isPlate filled allBelow obeys wrongUnit labelled labelAt newest wrongSidesOf bodyOffset entryOf largestWhole largestSide entrySize maxCount known u32At u16At zeroOrAbove wrongLength maxSide
+unfolding isPlateTo filled allBelow obeys wrongUnit labelled labelAt newest wrongSidesOf bodyOffset entryOf largestWhole largestSide larger entrySize maxCount knownTo u32At u16At zeroOrAbove wrongLength maxSide
 worked = refl
 
 pub no-pictures : (file : List ℕ) → isPlate file ≡ true → count file ≡ 0 → length file ≡ 4

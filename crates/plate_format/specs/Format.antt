@@ -1,11 +1,11 @@
 -- The plate file: its numbers, its table, its bodies and its rules, on a list of bytes.
-use mathlib.Core.Bool.{Bool, true, not, cond, _&&_, _||_}
+use mathlib.Core.Bool.{Bool, true, not, cond, _&&_}
 use mathlib.Core.List.{List}
 use Prim.Native.Nat.{ℕ, zero, suc, _+_, _*_}
 use lib.Dec.{leb, eqb}
 use lib.ListN.{length, getD}
 use Rattle.picture.specs.Sizes.{maxSide}
-use Rattle.picture.specs.Refusal.{zeroOrAbove, wrongLength}
+use Rattle.picture.specs.Refusal.{zeroOrAbove, sidesOutside, wrongLength}
 use Rattle.plate_format.specs.declared.Entry.{Entry}
 
 -- little-endian: a number of two bytes, and one of four
@@ -22,13 +22,17 @@ version file = u16At file 0
 abbrev pub count : List ℕ → ℕ
 count file = u16At file 2
 
--- the newest version; those there are, from 1 on; and the most pictures of a plate
+-- the versions, from 1 on, of a reader whose newest is r; and the newest of this release
+unfoldable pub knownTo : ℕ → ℕ → Bool
+knownTo r v = not (zeroOrAbove r v)
+
 unfoldable pub newest : ℕ
-newest = 2
+newest = 3
 
-unfoldable pub known : ℕ → Bool
-known v = not (zeroOrAbove newest v)
+abbrev pub known : ℕ → Bool
+known v = knownTo newest v
 
+-- the most pictures of a plate
 unfoldable pub maxCount : ℕ
 maxCount = 64
 
@@ -36,15 +40,19 @@ maxCount = 64
 unfoldable pub labelled : ℕ → Bool
 labelled v = not (eqb v 1)
 
--- what a version fixes: how many bytes an entry has, the largest side (refusal 1's), and the most bytes of the whole
+-- version 3 is for larger scans
+unfoldable pub larger : ℕ → Bool
+larger v = eqb v 3
+
+-- what a version fixes: how many bytes an entry has, the largest side, and the most bytes of the whole
 unfoldable pub entrySize : ℕ → ℕ
 entrySize v = cond (labelled v) 16 12
 
 unfoldable pub largestSide : ℕ → ℕ
-largestSide v = maxSide
+largestSide v = cond (larger v) maxSide 4096
 
 unfoldable pub largestWhole : ℕ → ℕ
-largestWhole v = 16384
+largestWhole v = cond (larger v) 16777216 16384
 
 -- then one entry each: where entry i stands; the table ends where an entry `count` would stand
 abbrev pub entryAt : List ℕ → ℕ → ℕ
@@ -71,9 +79,9 @@ unfoldable pub bodyOffset : List ℕ → ℕ → ℕ
 bodyOffset file zero = entryAt file (count file)
 bodyOffset file (suc i) = bodyOffset file i + entryOf file i .length
 
--- sides that are 0 or above the version's largest
-unfoldable pub wrongSidesOf : ℕ → Entry → Bool
-wrongSidesOf v e = zeroOrAbove (largestSide v) (e .width) || zeroOrAbove (largestSide v) (e .height)
+-- sides of which one is 0 or above the version's largest
+unfoldable pub wrongSidesOf : ℕ → ℕ → ℕ → Bool
+wrongSidesOf v w h = sidesOutside (largestSide v) w h
 
 -- a unit but 1 or 2, where the version has one
 unfoldable pub wrongUnit : ℕ → ℕ → Bool
@@ -82,7 +90,7 @@ wrongUnit v unit = labelled v && zeroOrAbove 2 unit
 -- what an entry whose body starts at `start` obeys: the sides, a length of 4wh, the unit, and that offset
 unfoldable pub obeys : ℕ → ℕ → Entry → Bool
 obeys v start e =
-    not (wrongSidesOf v e)
+    not (wrongSidesOf v (e .width) (e .height))
     && not (wrongLength (e .length) (e .width) (e .height))
     && not (wrongUnit v (e .unit))
     && eqb (e .offset) start
@@ -100,10 +108,14 @@ allBelow (suc n) f = allBelow n f && f n
 unfoldable pub filled : List ℕ → Bool
 filled file = allBelow (count file) (entryObeys file) && eqb (length file) (bodyOffset file (count file))
 
--- the plate rules
-unfoldable pub isPlate : List ℕ → Bool
-isPlate file =
-    known (version file)
+-- the plate rules, to a reader whose newest version is r
+unfoldable pub isPlateTo : ℕ → List ℕ → Bool
+isPlateTo r file =
+    knownTo r (version file)
     && leb (count file) maxCount
     && filled file
     && leb (length file) (largestWhole (version file))
+
+-- and to this release
+abbrev pub isPlate : List ℕ → Bool
+isPlate file = isPlateTo newest file

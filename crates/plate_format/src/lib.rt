@@ -3,7 +3,7 @@ ghost use mathlib.Core.Path.{_≡_};
 ghost use mathlib.Core.Bool.{true};
 ghost use Prim.Native.Nat.{_+_, _<_, _≤_};
 ghost use lib.ListN.{length};
-ghost use Rattle.plate_format.specs.Format.{u16At, u32At, version, count, known, labelled, entrySize, largestWhole, entryAt, labelAt, entryOf, bodyOffset, wrongUnit, obeys, filled, isPlate};
+ghost use Rattle.plate_format.specs.Format.{u16At, u32At, version, count, known, labelled, entrySize, larger, largestSide, largestWhole, entryAt, labelAt, entryOf, bodyOffset, wrongUnit, obeys, filled, isPlate};
 ghost use Rattle.plate_format.specs.Needs.{Tabled};
 
 // The version and the count stand in the first bytes, and the table after them.
@@ -13,7 +13,7 @@ pub const HEADER: usize = 4;
 pub const MAX_COUNT: usize = 64;
 
 // The newest version of the plate file.
-const NEWEST: usize = 2;
+const NEWEST: usize = 3;
 
 // One entry of the table, as the file has it; version 1 has no unit and no sheet, which are 0 there.
 pub struct Entry {
@@ -78,11 +78,25 @@ pub fn entry_size(v: u16) -> usize
     if labelled(v) { 16 } else { 12 }
 }
 
+// Whether a version is for larger scans.
+fn larger(v: u16) -> bool
+    ensures { λ r. ⌜ r ≡ larger v ⌝ }
+{
+    v == 3
+}
+
+// The largest side of a picture in a plate of this version.
+fn largest_side(v: u16) -> usize
+    ensures { λ r. ⌜ r ≡ largestSide v ⌝ }
+{
+    if larger(v) { picture::MAX_SIDE } else { 4096 }
+}
+
 // The most bytes that a plate of this version has.
 pub fn largest_whole(v: u16) -> usize
     ensures { λ r. ⌜ r ≡ largestWhole v ⌝ }
 {
-    16384
+    if larger(v) { 16777216 } else { 16384 }
 }
 
 // Where entry i of the table stands.
@@ -142,7 +156,7 @@ fn obeys(v: u16, start: usize, e: Entry) -> bool
 {
     let w = e.width as u32;
     let h = e.height as u32;
-    if picture::wrong_sides(w, h) {
+    if picture::sides_outside(largest_side(v), w, h) {
         return false;
     }
     if picture::wrong_length(e.length as usize, w, h) {

@@ -12,9 +12,9 @@ use lib.Seq.{take-append-le, drop-append-le, drop-append-add, drop-drop, drop-le
 use borrow.Author.Tests.{lt-ltb, le-ltb, le-leb, eq-eqb}
 use Rattle.picture.specs.Planes.{bytesOf}
 use Rattle.picture.specs.Refusal.{wrongSides, wrongLength}
-use Rattle.plate_format.specs.Format.{version, count, maxCount, labelled, labelAt, entrySize, largestWhole, entryOf, bodyOffset, wrongUnit, obeys, entryObeys, allBelow, filled, isPlate}
+use Rattle.plate_format.specs.Format.{version, count, maxCount, labelled, labelAt, entrySize, largestWhole, entryOf, bodyOffset, wrongSidesOf, wrongUnit, obeys, entryObeys, allBelow, filled, isPlateTo, isPlate}
 use Rattle.plate_format.specs.declared.Entry.{Entry}
-use Rattle.plate_format.proofs.Rules.{rules, sides-are, offset-up, plate-entry}
+use Rattle.plate_format.proofs.Rules.{rules, wide-is-long, offset-up, plate-entry}
 use Rattle.plate_format.proofs.Written.{Apt, version-read, count-read, entry-read}
 use Rattle.plate.specs.Lookup.{Beside}
 use Rattle.plate_write.specs.Steps.{headAfter}
@@ -28,9 +28,9 @@ all-below f zero h = refl
 all-below f (suc n) h = rw (all-below f n (λ i l. h i (omega arith)), h n (omega arith))
 
 -- what an entry obeys, from its parts
-obeyed : (v start : ℕ) (e : Entry) → wrongSides (e .width) (e .height) ≡ false → e .length ≡ bytesOf (e .width) (e .height) → wrongUnit v (e .unit) ≡ false → e .offset ≡ start → obeys v start e ≡ true
+obeyed : (v start : ℕ) (e : Entry) → wrongSidesOf v (e .width) (e .height) ≡ false → e .length ≡ bytesOf (e .width) (e .height) → wrongUnit v (e .unit) ≡ false → e .offset ≡ start → obeys v start e ≡ true
 unfolding obeys wrongLength
-obeyed v start e s l u o = rw (sides-are v e ∙ s, eq-eqb (e .length) (bytesOf (e .width) (e .height)) l, u, eq-eqb (e .offset) start o)
+obeyed v start e s l u o = rw (s, eq-eqb (e .length) (bytesOf (e .width) (e .height)) l, u, eq-eqb (e .offset) start o)
 
 -- a label that is given has 0 where the version has none, and its unit is as right as the one given
 given-none : (v n : ℕ) → labelled v ≡ false → given v n ≡ 0
@@ -175,11 +175,11 @@ module _ {file : List ℕ} {w h : ℕ} {label : Beside} {picture : List ℕ} (ok
       (λ k lk.
       let o = plate-entry file (ok .plate) k lk in
       rw (old-entry-is k lk, offset-is k (omega arith))
-      (obeyed (version A) (bodyOffset file k + size) (further size (entryOf file k)) (o .sides) (o .long) (rw version-kept (o .named)) (ap (λ (x : ℕ). x + size) (o .starts))))
-      (rw (new-entry-is, offset-is (count file) (omega arith)) (obeyed (version A) (bodyOffset file (count file) + size) new (ok .sides) refl (rw version-kept (given-named (version file) (label .unit) (ok .named))) (rw last)))
+      (obeyed (version A) (bodyOffset file k + size) (further size (entryOf file k)) (rw version-kept (o .bounded)) (o .long) (rw version-kept (o .named)) (ap (λ (x : ℕ). x + size) (o .starts))))
+      (rw (new-entry-is, offset-is (count file) (omega arith)) (obeyed (version A) (bodyOffset file (count file) + size) new (rw version-kept (wide-is-long (version file) w h (ok .sides) (omega (arith, fits)))) refl (rw version-kept (given-named (version file) (label .unit) (ok .named))) (rw last)))
 
   pub still : isPlate A ≡ true
-  unfolding isPlate filled
+  unfolding isPlateTo filled
   still =
       rw (
         version-kept,

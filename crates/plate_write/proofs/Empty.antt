@@ -5,7 +5,7 @@ use Prim.Native.Nat.{ℕ}
 use native.Mathlib.Nat.{zero-mul}
 use native.Mathlib.Omega.{arith}
 use borrow.Author.Tests.{le-leb}
-use Rattle.plate_format.specs.Format.{u16At, version, count, known, maxCount, largestWhole, bodyOffset, allBelow, filled, isPlate}
+use Rattle.plate_format.specs.Format.{u16At, version, count, known, maxCount, largestWhole, bodyOffset, allBelow, filled, isPlateTo, isPlate}
 use Rattle.plate_format.specs.Written.{bytes16, headerBytes}
 use Rattle.plate_format.proofs.Table.{whole-small}
 use Rattle.plate_write.specs.Added.{emptyPlate}
@@ -19,5 +19,5 @@ unfolding headerBytes bytes16 u16At
 empty-count v = omega arith
 
 pub empty-plate : (v : ℕ) → known v ≡ true → isPlate (emptyPlate v) ≡ true
-unfolding isPlate filled allBelow bodyOffset maxCount headerBytes bytes16 u16At
+unfolding isPlateTo filled allBelow bodyOffset maxCount headerBytes bytes16 u16At
 empty-plate v k = rw (empty-version v, k, empty-count v, zero-mul, le-leb 4 (largestWhole v) (whole-small v .0))

@@ -14,7 +14,7 @@ use Rattle.picture.specs.Answer.{answered}
 use Rattle.picture.specs.Planes.{laid}
 use Rattle.plate_format.specs.Format.{version, count, entrySize, entryOf, isPlate}
 use Rattle.plate_format.proofs.Written.{length-header}
-use Rattle.plate.specs.Lookup.{pictureOf, lookedUp, answers, Beside, beside, labelledUp}
+use Rattle.plate.specs.Lookup.{pictureOf, lookedUp, answers, Beside, beside, labelledUpTo, labelledUp}
 use Rattle.plate.specs.declared.Lookup.{Lookup}
 use Rattle.plate.proofs.Settle.{listed, there}
 use Rattle.plate_write.specs.Added.{emptyPlate, added}
@@ -60,12 +60,12 @@ module _ {buffer : List ℕ} {used w h : ℕ} {picture : List ℕ} (label : Besi
   new-looked i l = sym (there (added file w h label picture) i (still addable) (rw (count-more addable) l))
 
   old-labelled : (i : ℕ) → i < count file → answered 0 (beside (entryOf file i .unit) (entryOf file i .sheet)) ≡ labelledUp file i
-  unfolding labelledUp
+  unfolding labelledUpTo
   old-labelled i l = listed file i (beside 0 0) (beside (entryOf file i .unit) (entryOf file i .sheet)) (ready .plate) l
 
   new-labelled : (i : ℕ) → i < count file + 1 →
       let A = added file w h label picture in answered 0 (beside (entryOf A i .unit) (entryOf A i .sheet)) ≡ labelledUp A i
-  unfolding labelledUp
+  unfolding labelledUpTo
   new-labelled i l = listed (added file w h label picture) i (beside 0 0) _ (still addable) (rw (count-more addable) l)
 
   -- of the plate with one picture more

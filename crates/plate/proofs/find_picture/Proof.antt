@@ -1,7 +1,7 @@
 -- Refused, and nothing is found; or the entry gives the picture's sides and stretch.
 use borrow.Author.Needs.{needs}
 use Rattle.plate_format.proofs.Rules.{plate-entry}
-use Rattle.plate.specs.Lookup.{lookedUp, Finds}
+use Rattle.plate.specs.Lookup.{lookedUpTo, Finds}
 use Rattle.plate.specs.declared.Asked.the-variants.{Listed}
 use Rattle.plate.proofs.Settle.{refuses, unlisted, there}
 use Rattle.plate.proofs.find_picture.Statement.{statement}
@@ -15,7 +15,7 @@ full-size-requires : tie.Need-full-size-requires
 full-size-requires c κs = let f = found (c .before .before .before) in rw (f .2) (plate-entry _ (f .0) _ (f .1) .sides)
 
 returns : tie.Need-returns
-unfolding lookedUp
+unfolding lookedUpTo
 returns c = unlisted _ _ _ _ _ (refuses (c .before .r .given .0 .0)) (rw (c .before .r .given .1) at (c .before .before .before .entry-of .ensures))
 
 returns-2 : tie.Need-returns-2

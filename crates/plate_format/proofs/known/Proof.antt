@@ -1,11 +1,11 @@
 -- The test is the definition's.
 use borrow.Author.Needs.{needs}
-use Rattle.plate_format.specs.Format.{newest, known}
+use Rattle.plate_format.specs.Format.{knownTo, newest}
 use Rattle.plate_format.proofs.known.Statement.{statement}
 use Rattle.plate_format.proofs.known.Tie as tie
 
 returns : tie.Need-returns
-unfolding known newest
+unfolding knownTo newest
 returns c = rw (c .zero-or-above .ensures)
 
 pub known-spec : {M : Type 1} → statement M

@@ -1,12 +1,17 @@
--- The number is the definition's.
-use mathlib.Core.Path.{refl}
+-- Each way out is one case of the definition.
+use mathlib.Core.Path.{_∙_, sym}
+use borrow.Author.Needs.{needs}
 use Rattle.plate_format.specs.Format.{largestWhole}
 use Rattle.plate_format.proofs.largest_whole.Statement.{statement}
 use Rattle.plate_format.proofs.largest_whole.Tie as tie
 
 returns : tie.Need-returns
 unfolding largestWhole
-returns c = refl
+returns c = rw (sym (c .before .larger .ensures) ∙ c .if1 .taken)
+
+returns-2 : tie.Need-returns-2
+unfolding largestWhole
+returns-2 c = rw (sym (c .before .larger .ensures) ∙ c .if1 .left)
 
 pub largest-whole-spec : {M : Type 1} → statement M
-largest-whole-spec = tie.close (tie.spec returns)
+largest-whole-spec = tie.close (tie.spec (λ c κs. search needs) returns returns-2)
