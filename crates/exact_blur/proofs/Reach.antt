@@ -15,21 +15,16 @@ use Rattle.exact_blur.specs.Demand.{UpTo14}
 use Rattle.exact_blur.proofs.Graded.{graded}
 
 -- what is accepted with no decimation is accepted with n
-deeper : (p w h s : ℕ) (weights : List Float) (n : ℕ) (strength : Float) (edge : ℕ) → n ≤ 14 →
-    0 ≡ firstOf (blurChecks p w h s weights 0 strength edge) → 0 ≡ firstOf (blurChecks p w h s weights n strength edge)
-unfolding maxDecimations
-deeper p w h s weights n strength edge l e =
-    let c = each-passes (blurChecks p w h s weights 0 strength edge) (omega arith) .0 e in
-    each-passes (blurChecks p w h s weights n strength edge) (omega arith) .1
-    (c .0, c .1 .0, c .1 .1 .0, c .1 .1 .1 .0, c .1 .1 .1 .1 .0, shallow-enough n .1 l, c .1 .1 .1 .1 .1 .1)
-
--- the number answered is that of the checks
-numbered : (p : List ℕ) (w h : ℕ) (s : List ℕ) (weights : List Float) (n : ℕ) (strength : Float) (edge r : ℕ) (left : Lent) →
-    answered r left ≡ blurOutcome p w h s weights n strength edge → r ≡ firstOf (blurChecks (length p) w h (length s) weights n strength edge)
-unfolding blurOutcome
-numbered p w h s weights n strength edge r left e = read _ _ _ r left e .number
+deeper : (p : List ℕ) (w h : ℕ) (s : List ℕ) (weights : List Float) (n : ℕ) (strength : Float) (edge r : ℕ) (left : Lent) →
+    answered r left ≡ blurOutcome p w h s weights n strength edge → 0 ≡ firstOf (blurChecks (length p) w h (length s) weights 0 strength edge) → n ≤ 14 → r ≡ 0
+unfolding blurOutcome maxDecimations
+deeper p w h s weights n strength edge r left e fit l =
+    let c = each-passes (blurChecks (length p) w h (length s) weights 0 strength edge) (omega arith) .0 fit in
+    let passed = each-passes (blurChecks (length p) w h (length s) weights n strength edge) (omega arith) .1 in
+    read _ _ _ r left e .number
+    ∙ sym (passed (c .0, (c .1 .0, (c .1 .1 .0, (c .1 .1 .1 .0, (c .1 .1 .1 .1 .0, (shallow-enough n .1 l, c .1 .1 .1 .1 .1 .1)))))))
 
 pub up-to-14 : UpTo14
 up-to-14 κs a r left post fit l on kernel bytes =
-    let zero = numbered _ _ _ _ _ _ _ _ r (lent (now (left .0)) (now (left .1 .1 .1 .0))) post ∙ sym (deeper _ _ _ _ _ _ _ _ l fit) in
+    let zero = deeper _ _ _ _ _ _ _ _ r (lent (now (left .0)) (now (left .1 .1 .1 .0))) post fit l in
     (zero, graded κs a r left post zero on kernel bytes)
