@@ -1,6 +1,7 @@
 //! The cases, group by group.
 use crate::case::{Case, Entry, ENTRIES};
 use crate::inputs::{self, NOT_FINITE, NO_SHARE, OFFSETS};
+use crate::larger_cases;
 use crate::mend_cases;
 use crate::pam_cases;
 use crate::plate_cases;
@@ -39,17 +40,25 @@ pub fn all(amount: Amount, take: Take) {
     if amount == Amount::Full {
         compositing(&mut random, take);
         largest(&mut random, take);
+        larger_cases::longest_jobs(&mut random, take);
     }
+    larger_cases::longest_plates(&mut random, take);
     refusals(&mut random, &ENTRIES, amount.of(8, 60), u32::MAX, take);
     samples(&mut random, take);
     for _ in 0..amount.of(1, 10) {
         plate_cases::all(&mut random, take);
         pam_cases::all(&mut random, take);
         mend_cases::all(&mut random, take);
+        larger_cases::all(&mut random, take);
     }
     for _ in 0..amount.of(30_000, 900_000) {
         take(any(&mut random));
     }
+}
+
+/// An n that is accepted.
+fn any_depth(random: &mut Random) -> u32 {
+    random.below(u64::from(MOST_DECIMATIONS) + 1) as u32
 }
 
 /// A work buffer at least as long as needed.
@@ -108,7 +117,7 @@ fn long_blurs(random: &mut Random, amount: Amount, take: Take) {
             for _ in 0..amount.of(2, 24) {
                 let side = random.pick(&[1, 1, 2, 3, 5]);
                 let (w, h) = if random.one_in(2) { (side, length) } else { (length, side) };
-                let n = random.below(u64::from(MOST_DECIMATIONS) + 1) as u32;
+                let n = any_depth(random);
                 let taps = random.range(1, MOST_TAPS as i64) as usize;
                 take(blur(random, w, h, n, edge, taps));
             }
@@ -116,7 +125,7 @@ fn long_blurs(random: &mut Random, amount: Amount, take: Take) {
     }
     for _ in 0..amount.of(4, 60) {
         let (w, h) = (random.range(30, 150) as u32, random.range(30, 150) as u32);
-        let (n, edge) = (random.below(13) as u32, random.below(4) as u32);
+        let (n, edge) = (any_depth(random), random.below(4) as u32);
         take(blur(random, w, h, n, edge, 5));
         take(shadow(random, w, h, n, edge, 4));
     }
@@ -125,15 +134,17 @@ fn long_blurs(random: &mut Random, amount: Amount, take: Take) {
 /// Sides at the limit.
 fn limits(random: &mut Random, amount: Amount, take: Take) {
     let sides = [LARGEST_SIDE, LARGEST_SIDE - 1];
-    for i in 0..amount.of(48, 480) {
+    for i in 0..amount.of(60, 600) {
         let (edge, n) = (i % 4, i / 4 % (MOST_DECIMATIONS + 1));
         let (long, short) = (random.pick(&sides), random.pick(&[1, 1, 2]));
-        let (w, h) = if i % 2 == 0 { (long, short) } else { (short, long) };
-        let taps = random.pick(&[1, 2, 3, 32, 33]);
+        let (w, h) = if (i + i / 4) % 2 == 0 { (long, short) } else { (short, long) };
+        let taps = random.pick(&[1, 2, 3, 8, 33]);
         take(blur(random, w, h, n, edge, taps));
-        take(shadow(random, w, h, n, edge, 3));
-        let (dx, dy) = (inputs::offset(random, w), inputs::offset(random, h));
-        take(shift(random, w, h, dx, dy));
+        if i % 5 == 0 {
+            take(shadow(random, w, h, n, edge, 3));
+            let (dx, dy) = (inputs::offset(random, w), inputs::offset(random, h));
+            take(shift(random, w, h, dx, dy));
+        }
     }
 }
 
@@ -201,9 +212,9 @@ fn compositing(random: &mut Random, take: Take) {
     }
 }
 
-/// The largest picture.
+/// The largest square of version 1 and 2; the command `large` has that of version 3.
 fn largest(random: &mut Random, take: Take) {
-    let side = LARGEST_SIDE;
+    let side = 4096;
     for (edge, n) in [(0, 0), (1, 1), (2, MOST_DECIMATIONS)] {
         take(blur(random, side, side, n, edge, 3));
     }
@@ -234,11 +245,12 @@ pub fn numbers(entry: Entry) -> &'static [u32] {
 
 fn bad_sides(random: &mut Random, case: &mut Case) {
     let bad = random.pick(&[0, LARGEST_SIDE + 1, 65536, 1 << 30, u32::MAX]);
-    let side = if random.one_in(2) { &mut case.w } else { &mut case.h };
-    *side = bad;
-    // so that 4wh is the picture's length all the same
-    let length = 4 * case.w as usize * case.h as usize;
-    if bad == 0 || bad == LARGEST_SIDE + 1 {
+    // so that 4wh is the picture's length all the same, which is not a great one
+    let near = bad == 0 || bad == LARGEST_SIDE + 1;
+    let other = if near { 1 } else { case.w };
+    (case.w, case.h) = if random.one_in(2) { (bad, other) } else { (other, bad) };
+    if near {
+        let length = 4 * case.w as usize * case.h as usize;
         case.pixels().resize(length, 7);
     }
     if case.blurs() {
@@ -324,7 +336,7 @@ pub fn accepted(random: &mut Random, entry: Entry) -> Case {
         _ => (),
     }
     let (w, h) = (random.range(1, 6) as u32, random.range(1, 6) as u32);
-    let (n, edge) = (random.below(13) as u32, random.below(4) as u32);
+    let (n, edge) = (any_depth(random), random.below(4) as u32);
     let taps = random.range(1, MOST_TAPS as i64) as usize;
     let mut case = shadow(random, w, h, n, edge, taps);
     case.entry = entry;
@@ -403,7 +415,7 @@ fn any(random: &mut Random) -> Case {
         8 => (random.range(1, 60) as u32, random.range(1, 3) as u32),
         _ => (random.range(1, 3) as u32, random.range(1, 60) as u32),
     };
-    let n = random.pick(&[0, 0, 1, 1, 1, 2, 2, 3, 3, 4, 5, 6, 8, 12]);
+    let n = random.pick(&[0, 0, 1, 1, 1, 2, 2, 3, 3, 4, 5, 6, 8, 12, 13, 14]);
     let edge = random.pick(&[0, 1, 1, 2, 3]);
     let taps = random.pick(&[1, 1, 2, 3, 3, 4, 5, 7, 8, 13, 32, 33]);
     match random.below(12) {

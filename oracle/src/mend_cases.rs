@@ -148,7 +148,7 @@ fn lists(random: &mut Random, take: &mut dyn FnMut(Case)) {
 
 /// Sides and lengths that are wrong, and sides at the limit.
 fn sides(random: &mut Random, take: &mut dyn FnMut(Case)) {
-    let large = [0, 1, 2, 4096, 4097, 65536, 65537, 1 << 30, 1 << 31, u32::MAX];
+    let large = [0, 1, 2, 4096, 4097, 16384, 16385, 65536, 65537, 1 << 30, 1 << 31, u32::MAX];
     for (w, h) in large.into_iter().flat_map(|w| large.map(|h| (w, h))) {
         for length in [0, 4, 8] {
             let picture: Vec<u8> = (0..length).map(|_| random.byte()).collect();

@@ -32,7 +32,7 @@ const STORED: [&str; 14] = [
 ];
 
 /// Sides in text: at and past the limits, and some that 16, 32 or 64 bits would take for 1, 2 or 4096.
-const SIDES: [&str; 20] = [
+const SIDES: [&str; 23] = [
     "",
     "0",
     "00",
@@ -47,6 +47,9 @@ const SIDES: [&str; 20] = [
     "4097",
     "9999",
     "10000",
+    "16383",
+    "16384",
+    "16385",
     "65536",
     "65537",
     "99999",
@@ -176,7 +179,7 @@ fn sides(random: &mut Random, take: &mut dyn FnMut(Case)) {
         let body = |bits: u32| last(w, bits).saturating_mul(last(h, bits)).saturating_mul(4);
         let mut bodies: Vec<u128> = [128, 64, 32, 16].map(body).into();
         bodies.dedup();
-        for body in bodies.into_iter().filter(|body| *body <= 40_000) {
+        for body in bodies.into_iter().filter(|body| *body <= 66_000) {
             take(file(random, &text, body as usize, 3));
         }
     }
@@ -257,8 +260,9 @@ pub fn stored(random: &mut Random) -> Vec<Case> {
         cases.push(file(random, &good.replacen(old, new, 1), 24, 0));
     }
     cases.push(file(random, &good.replace("WIDTH 2\nHEIGHT 3", "HEIGHT 3\nWIDTH 2"), 24, 0));
+    cases.push(file(random, &good.replace("DEPTH 4", "DEPTH 3"), 24, -24));
     for (wide, body) in
-        [("0", 0), ("4097", 12), ("65538", 24), ("4294967298", 24), ("18446744073709551618", 24), ("", 0)]
+        [("0", 0), ("16385", 12), ("65538", 24), ("4294967298", 24), ("18446744073709551618", 24), ("", 0)]
     {
         cases.push(file(random, &good.replace("WIDTH 2", &format!("WIDTH {wide}")), body, 3));
     }

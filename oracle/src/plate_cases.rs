@@ -2,9 +2,11 @@
 use crate::case::{Case, Entry};
 use crate::inputs;
 use crate::random::Random;
-use rule::plate::{entry_size, HEAD, LONGEST, NEWEST};
+use rule::plate::{entry_size, longest, HEAD, NEWEST};
 use rule::plate_write::version;
 
+/// The bytes of a plate of version 1 or 2.
+const LONGEST: usize = longest(2);
 /// Versions, known and not, and some that 16 or 8 bits would take for a known one.
 pub const VERSIONS: [u32; 12] = [0, 1, 2, 3, 4, 255, 257, 65535, 65536, 65537, 65538, u32::MAX];
 pub const UNITS: [u32; 9] = [0, 1, 2, 3, 257, 65535, 65537, 65538, u32::MAX];
@@ -198,7 +200,7 @@ fn short_buffers(random: &mut Random, take: &mut dyn FnMut(Case)) {
 fn sides(random: &mut Random, take: &mut dyn FnMut(Case)) {
     let plate = small_plate(random, 1);
     let case = add(random, plate, 2, 1, 30);
-    let large = [0, 1, 2, 4095, 4096, 4097, 65535, 65536, 65537, 65538, 1 << 30, 1 << 31, u32::MAX];
+    let large = [0, 1, 2, 4095, 4096, 4097, 16384, 16385, 65535, 65536, 65537, 65538, 1 << 30, 1 << 31, u32::MAX];
     for w in large {
         for h in large {
             for length in [0, 4, 8] {
@@ -251,7 +253,7 @@ fn wrong_labels(random: &mut Random, take: &mut dyn FnMut(Case)) {
             plate[head + entry * i + 12..head + entry * i + 14].copy_from_slice(&unit.to_le_bytes());
             take(reading(random, reader, plate));
         }
-        for (own, named) in (1..=3).flat_map(|own| VERSIONS.map(|named| (own, named as u16))) {
+        for (own, named) in (1..=NEWEST as u16).flat_map(|own| VERSIONS.map(|named| (own, named as u16))) {
             for count in [0, 1, 2] {
                 let mut plate = inputs::plate_of(random, own, &vec![(2, 2); count]);
                 plate[..2].copy_from_slice(&named.to_le_bytes());
@@ -283,7 +285,7 @@ pub fn stored(random: &mut Random) -> Vec<Case> {
         cases.push(Case { used, ..case.clone() });
     }
     cases.push(Case { used: own + 1, picture: case.picture[..own as usize].to_vec(), ..case.clone() });
-    for (w, h) in [(0, 1), (1, 4097), (65537, 2), (1, 1), (1 << 30, 1)] {
+    for (w, h) in [(0, 1), (1, 4097), (1, 16385), (65537, 2), (1, 1), (1 << 30, 1)] {
         cases.push(Case { w, h, ..case.clone() });
     }
     // no room and another refusal too
@@ -307,9 +309,19 @@ fn stored_labels(random: &mut Random) -> Vec<Case> {
         cases.extend(UNITS.map(|unit| Case { unit, sheet: 258, ..case.clone() }));
         cases.push(Case { unit: 0, w: 0, ..case });
     }
-    for (version, at, byte) in
-        [(2, 32, 0), (2, 32, 3), (2, 33, 1), (2, 16, 4), (2, 0, 1), (1, 0, 2), (2, 0, 3), (1, 1, 1)]
-    {
+    for (version, at, byte) in [
+        (2, 32, 0),
+        (2, 32, 3),
+        (2, 33, 1),
+        (2, 16, 4),
+        (2, 0, 1),
+        (1, 0, 2),
+        (2, 0, 3),
+        (3, 32, 3),
+        (3, 0, 4),
+        (1, 0, 3),
+        (1, 1, 1),
+    ] {
         let mut plate = inputs::plate_of(random, version, &[(1, 1), (2, 1)]);
         plate[at] = byte;
         cases.extend(READERS.map(|reader| reading(random, reader, plate.clone())));

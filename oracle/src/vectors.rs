@@ -3,6 +3,7 @@ use crate::case::{run, work, Case, Entry, Outcome, ENTRIES, FIRST};
 use crate::compare::Examiner;
 use crate::generate;
 use crate::inputs;
+use crate::larger_cases;
 use crate::library::{Library, RULE};
 use crate::mend_cases;
 use crate::pam_cases;
@@ -170,7 +171,7 @@ fn marked() -> Vec<Case> {
     };
     cases.extend([Case { composite: 0, ..over.clone() }, over]);
     cases.extend(coloured());
-    for n in [0, 1, 12] {
+    for n in [0, 1, 12, 13, 14, 15] {
         cases.push(Case { weights: quarter.clone(), n, ..alphas(Entry::Spread, &[]) });
     }
     let plate = vec![1, 0, 1, 0, 1, 0, 1, 0, 16, 0, 0, 0, 4, 0, 0, 0, 10, 20, 30, 255];
@@ -196,6 +197,7 @@ pub fn cases() -> Vec<Case> {
     let mut later = plate_cases::stored(&mut Random::new(10));
     later.extend(pam_cases::stored(&mut Random::new(12)));
     later.extend(mend_cases::stored(&mut Random::new(13)));
+    later.extend(larger_cases::stored(&mut Random::new(14)));
     generate::refusals(&mut Random::new(11), &ENTRIES[9..], 1, 2, &mut |case| later.push(case));
     cases.extend(later.into_iter().filter(is_short));
     cases
@@ -214,7 +216,7 @@ fn first_cases() -> Vec<Case> {
         }
     }
     for (w, h, taps) in [(1, 1, 33), (7, 1, 33), (1, 9, 32), (2, 3, 16), (17, 1, 3), (1, 17, 2)] {
-        for (edge, n) in [0, 1, 2, 12].into_iter().enumerate() {
+        for (edge, n) in [0, 1, 2, 14].into_iter().enumerate() {
             cases.push(generate::blur(&mut random, w, h, n, edge as u32, taps));
         }
     }

@@ -12,6 +12,6 @@ pub mod scheme;
 pub mod shadow;
 pub mod shift;
 
-pub const LARGEST_SIDE: u32 = 4096;
+pub const LARGEST_SIDE: u32 = 16384;
 pub const MOST_TAPS: usize = 33;
-pub const MOST_DECIMATIONS: u32 = 12;
+pub const MOST_DECIMATIONS: u32 = 14;

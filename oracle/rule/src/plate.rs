@@ -1,13 +1,31 @@
 //! The plate file: its rules in every version, the picture and the label of an index, and the job.
 use crate::blur::blur;
 use crate::refusal;
+use crate::LARGEST_SIDE;
 
 /// The newest version that is known; all from 1 on are.
-pub const NEWEST: u64 = 2;
+pub const NEWEST: u64 = 3;
 /// The bytes before the table.
 pub const HEAD: usize = 4;
-pub const LONGEST: usize = 16384;
 pub const MOST_PICTURES: usize = 64;
+
+/// The bytes that a plate may have: in the library 16 MiB from version 3 on.
+pub const fn longest(version: u64) -> usize {
+    if version < 3 {
+        16384
+    } else {
+        16 << 20
+    }
+}
+
+/// The largest side of a plate's picture. Before version 3 it shows in no answer: one more makes a body too long.
+pub fn largest_side(version: u64) -> u32 {
+    if version < 3 {
+        4096
+    } else {
+        LARGEST_SIDE
+    }
+}
 
 pub fn known(version: u64) -> bool {
     (1..=NEWEST).contains(&version)
@@ -61,7 +79,7 @@ fn entry(plate: &[u8], version: u64, i: usize) -> Option<Picture> {
 pub fn pictures(plate: &[u8]) -> Option<Vec<Picture>> {
     let version = number(plate, 0, 2)?;
     let count = number(plate, 2, 2)? as usize;
-    if !known(version) || count > MOST_PICTURES || plate.len() > LONGEST {
+    if !known(version) || count > MOST_PICTURES || plate.len() > longest(version) {
         return None;
     }
     let mut pictures = Vec::new();
@@ -69,7 +87,8 @@ pub fn pictures(plate: &[u8]) -> Option<Vec<Picture>> {
     for i in 0..count {
         let picture = entry(plate, version, i)?;
         let fits = u128::from(picture.length) == refusal::bytes(picture.w, picture.h);
-        if refusal::sides(picture.w, picture.h) || !fits || picture.offset != end || wrong_unit(version, picture.unit) {
+        let wide = refusal::sides(picture.w, picture.h) || picture.w.max(picture.h) > largest_side(version);
+        if wide || !fits || picture.offset != end || wrong_unit(version, picture.unit) {
             return None;
         }
         end += picture.length;

@@ -1,5 +1,5 @@
-//! Writing plates (requests 01 and 05): an empty plate, and a plate with one picture more, each made anew as a whole file.
-use crate::plate::{self, entry_size, known, wrong_unit, Picture, HEAD, LONGEST, MOST_PICTURES};
+//! Writing plates (requests 01, 05 and 11): an empty plate, and a plate with one picture more, each made anew as a whole file.
+use crate::plate::{self, entry_size, known, longest, wrong_unit, Picture, HEAD, MOST_PICTURES};
 use crate::refusal::{self, first};
 
 /// A picture as a plate holds it.
@@ -70,7 +70,7 @@ pub fn add(buffer: &mut [u8], used: u64, picture: &[u8], w: u32, h: u32, unit: u
     let (0, Some(mut scans)) = (refused, old) else { return (refused, 0) };
     scans.push(Scan { w, h, unit, sheet, body: picture.to_vec() });
     let new = file(version, &scans);
-    if scans.len() > MOST_PICTURES || new.len() > LONGEST || new.len() > buffer.len() {
+    if scans.len() > MOST_PICTURES || new.len() > longest(version.into()) || new.len() > buffer.len() {
         return (13, 0);
     }
     buffer[..new.len()].copy_from_slice(&new);

@@ -28,7 +28,7 @@ fn refusals_in_their_order() {
     assert_eq!(mend(&mut picture, 2, 2, &mut list), (17, 0));
     assert_eq!((picture, list), (OLD, [REST]));
     let [first, second] = LIST;
-    assert_eq!(rebuild(&mut picture, 4097, 2, &[second, first]), 1);
+    assert_eq!(rebuild(&mut picture, 16385, 2, &[second, first]), 1);
     assert_eq!(rebuild(&mut picture, 1, 2, &[second, first]), 2);
     let far = |place| Change { place, pixel: 0 };
     for list in [

@@ -76,8 +76,8 @@ fn files_that_do_not_fit() {
         let text = format!("P7\nWIDTH {w}\nHEIGHT {h}\nDEPTH 4\nMAXVAL 255\nTUPLTYPE RGB_ALPHA\nENDHDR\n");
         [text.as_bytes(), &vec![0; body]].concat()
     };
-    assert!(parsed(&sized(4096, 1, 16384)).is_some() && parsed(&sized(1, 4096, 16384)).is_some());
-    assert!([(4097, 1), (1, 4097)].iter().all(|(w, h)| parsed(&sized(*w, *h, 16388)).is_none()));
+    assert!([(16384, 1), (1, 16384)].iter().all(|(w, h)| parsed(&sized(*w, *h, 65536)).is_some()));
+    assert!([(16385, 1), (1, 16385)].iter().all(|(w, h)| parsed(&sized(*w, *h, 65540)).is_none()));
     assert!([(0, 1), (1, 0), (0, 0)].iter().all(|(w, h)| parsed(&sized(*w, *h, 0)).is_none()));
 }
 

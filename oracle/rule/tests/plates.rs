@@ -40,12 +40,12 @@ fn refusals_in_their_order() {
         assert_eq!(refused(&room, used, &[], 0, 0), 10);
     }
     assert_eq!(refused(&room, 20, &[], 0, 1), 1);
-    assert_eq!(refused(&room, 20, &[], 1, 4097), 1);
+    assert_eq!(refused(&room, 20, &[], 1, 16385), 1);
     assert_eq!(refused(&ONE, 20, &[1, 2, 3], 1, 1), 2);
     assert_eq!(refused(&ONE, 20, &[1, 2, 3, 4], 1, 1), 13);
     assert_eq!(refused(&room[..35], 20, &[1, 2, 3, 4], 1, 1), 13);
     assert_eq!(add(&mut room[..36].to_vec(), 20, &[1, 2, 3, 4], 1, 1, 1, 1), (0, 36));
-    for (version, length, number) in [(3, 9, 10), (0, 9, 10), (65537, 9, 10), (0, 3, 10), (1, 3, 13), (1, 0, 13)] {
+    for (version, length, number) in [(4, 9, 10), (0, 9, 10), (65537, 9, 10), (0, 3, 10), (1, 3, 13), (1, 0, 13)] {
         let mut buffer = vec![5; length];
         assert_eq!(start(&mut buffer, version), (number, 0));
         assert_eq!(buffer, vec![5; length]);
@@ -110,7 +110,7 @@ fn version_1_has_no_label() {
 
 #[test]
 fn wrong_units_and_versions() {
-    for (at, byte) in [(16, 0), (16, 3), (17, 1), (32, 3), (33, 1), (0, 1), (0, 3), (0, 0), (1, 1)] {
+    for (at, byte) in [(16, 0), (16, 3), (17, 1), (32, 3), (33, 1), (0, 1), (0, 4), (0, 0), (1, 1)] {
         let mut plate = LABELLED;
         plate[at] = byte;
         assert_eq!((label(&plate, 0), picture(&plate, 0).0, job(&mut plate, &mut [0; 9])), ((10, 0, 0), 10, 10));
@@ -122,4 +122,46 @@ fn wrong_units_and_versions() {
         assert_eq!(add(&mut room.clone(), 48, &[], 0, 0, unit, 0), (10, 0));
     }
     assert_eq!(add(&mut room.clone(), 48, &[], 0, 0, 2, 0), (1, 0));
+}
+
+/// Version 3 is version 2's layout: the same plate under another number.
+#[test]
+fn version_3_is_laid_out_as_version_2() {
+    let mut buffer = [0xEE; 50];
+    assert_eq!(start(&mut buffer, 3), (0, 4));
+    assert_eq!(add(&mut buffer, 4, &LABELLED[36..40], 1, 1, 2, 258), (0, 24));
+    assert_eq!(add(&mut buffer, 24, &LABELLED[40..], 2, 1, 1, 0), (0, 48));
+    let third = [&[3], &LABELLED[1..]].concat();
+    assert_eq!((&buffer[..48], &buffer[48..]), (&third[..], &[0xEE; 2][..]));
+    assert_eq!([0, 1, 2].map(|i| label(&third, i)), [(0, 2, 258), (0, 1, 0), (12, 0, 0)]);
+    assert_eq!(picture(&third, 1), picture(&LABELLED, 1));
+}
+
+/// 16384 by 1 takes 65536 bytes: in versions 1 and 2 there is no room, whatever the buffer. A wrong length comes before.
+#[test]
+fn sides_to_16384_in_version_3_alone() {
+    for (version, entry) in [(1, 12), (2, 16), (3, 16)] {
+        let empty = [vec![version, 0, 0, 0], vec![0; 70000]].concat();
+        for (w, h) in [(16384, 1), (1, 16384), (4097, 1), (1, 4097)] {
+            let body = vec![7; (4 * w * h) as usize];
+            let (number, length) = add(&mut empty.clone(), 4, &body, w, h, 1, 1);
+            let whole = (4 + entry + body.len()) as u64;
+            assert_eq!((number, length), if version == 3 { (0, whole) } else { (13, 0) });
+            assert_eq!(refused(&empty, 4, &body[1..], w, h), 2);
+        }
+        assert_eq!(refused(&empty, 4, &vec![7; 4 * 16385], 16385, 1), 1);
+    }
+}
+
+/// Two pictures that fill a plate of 16 MiB, and one pixel more.
+#[test]
+fn sixteen_mebibytes() {
+    let mut buffer = vec![0; (16 << 20) + 4];
+    let used = start(&mut buffer, 3).1;
+    let (number, used) = add(&mut buffer, used, &vec![5; 4 * 16384 * 255], 16384, 255, 1, 1);
+    assert_eq!((number, used), (0, 20 + 4 * 16384 * 255));
+    assert_eq!(add(&mut buffer.clone(), used, &vec![6; 4 * 16376], 16376, 1, 2, 2), (13, 0));
+    assert_eq!(add(&mut buffer, used, &vec![6; 4 * 16375], 16375, 1, 2, 2), (0, 16 << 20));
+    assert_eq!(label(&buffer[..16 << 20], 1), (0, 2, 2));
+    assert_eq!(add(&mut buffer, 16 << 20, &[1, 2, 3, 4], 1, 1, 1, 1), (13, 0));
 }

@@ -2,37 +2,43 @@
 use super::{cases, changed, lawful, refused, told_apart, told_by_vectors, Wrong};
 use crate::case::{Case, Entry, Outcome};
 use crate::plate_cases;
-use rule::plate::{entry_size, wrong_unit, HEAD, LONGEST, MOST_PICTURES, NEWEST};
+use rule::plate::{entry_size, longest, wrong_unit, HEAD, MOST_PICTURES, NEWEST};
 use rule::plate_write::{file, in_use, scans, version, Scan};
 use rule::refusal;
 
 /// The limits and the order of the checks.
-struct Writer {
-    most: usize,
-    longest: usize,
+pub struct Writer {
+    pub most: usize,
+    /// The bytes that a plate of a version may have.
+    pub longest: fn(u64) -> usize,
     /// How many bytes of the buffer stay free.
-    spare: usize,
-    order: [u32; 4],
+    pub spare: usize,
+    pub order: [u32; 4],
     /// Where the new picture goes, of the old ones' count.
-    at: fn(usize) -> usize,
+    pub at: fn(usize) -> usize,
     /// Whether a version takes no such unit.
-    wrong_unit: fn(u64, u32) -> bool,
+    pub wrong_unit: fn(u64, u32) -> bool,
     /// What is written of unit and sheet.
-    label: fn(u32, u16) -> (u32, u16),
+    pub label: fn(u32, u16) -> (u32, u16),
+    /// The version that is written, of the plate's own and the new length.
+    pub version: fn(u16, usize) -> u16,
+    pub side: fn(u32) -> bool,
 }
 
-const RIGHT: Writer = Writer {
+pub const RIGHT: Writer = Writer {
     most: MOST_PICTURES,
-    longest: LONGEST,
+    longest,
     spare: 0,
     order: [10, 1, 2, 13],
     at: |count| count,
     wrong_unit,
     label: |unit, sheet| (unit, sheet),
+    version: |version, _| version,
+    side: refusal::side,
 };
 
 impl Writer {
-    fn add(&self, case: &Case) -> Outcome {
+    pub fn add(&self, case: &Case) -> Outcome {
         let plate = in_use(&case.picture, case.used).unwrap_or_default();
         let (version, mut new) = (version(plate), scans(plate).unwrap_or_default());
         let (unit, sheet) = (self.label)(case.unit, case.sheet);
@@ -40,18 +46,18 @@ impl Writer {
         let whole = (plate.len() + entry_size(version.into())) as u128 + refusal::bytes(case.w, case.h);
         let holds = |number: &&u32| match number {
             10 => scans(plate).is_none() || (self.wrong_unit)(version.into(), case.unit),
-            1 => refusal::sides(case.w, case.h),
+            1 => (self.side)(case.w) || (self.side)(case.h),
             2 => refusal::length(&case.other, case.w, case.h),
             _ => {
                 let room = case.picture.len().saturating_sub(self.spare) as u128;
-                new.len() > self.most || whole > self.longest as u128 || whole > room
+                new.len() > self.most || whole > (self.longest)(version.into()) as u128 || whole > room
             }
         };
         if let Some(number) = self.order.iter().find(holds) {
             return refused(case, *number);
         }
         let mut outcome = refused(case, 0);
-        let bytes = file(version, &new);
+        let bytes = file((self.version)(version, whole as usize), &new);
         outcome.picture[..bytes.len()].copy_from_slice(&bytes);
         outcome.numbers[0] = bytes.len() as u64;
         outcome
@@ -97,8 +103,8 @@ const ADDS: [Wrong; 28] = [
     ("the rest cleared", |case| changed(case, 0, |outcome| outcome.picture[outcome.numbers[0] as usize..].fill(0))),
     ("65 pictures", |case| Writer { most: 65, ..RIGHT }.add(case)),
     ("63 pictures", |case| Writer { most: 63, ..RIGHT }.add(case)),
-    ("16384 bytes refused", |case| Writer { longest: LONGEST - 1, ..RIGHT }.add(case)),
-    ("16388 bytes taken", |case| Writer { longest: LONGEST + 4, ..RIGHT }.add(case)),
+    ("16384 bytes refused", |case| Writer { longest: |version| longest(version) - 1, ..RIGHT }.add(case)),
+    ("16388 bytes taken", |case| Writer { longest: |version| longest(version) + 4, ..RIGHT }.add(case)),
     ("a full buffer refused", |case| Writer { spare: 1, ..RIGHT }.add(case)),
     ("the length in use cut to 32 bits", |case| lawful(&Case { used: case.used as u32 as u64, ..case.clone() })),
     ("a length in use beyond the buffer held at it", |case| {
@@ -131,15 +137,17 @@ const ADDS: [Wrong; 28] = [
 ];
 
 /// How a plate is read.
-struct Reader {
-    newest: u16,
-    entry_size: fn(u16) -> usize,
+pub struct Reader {
+    pub newest: u16,
+    pub entry_size: fn(u16) -> usize,
     /// Whether the unit of an entry is checked.
-    checked: fn(usize) -> bool,
+    pub checked: fn(usize) -> bool,
+    /// The bytes that a plate of a version may have.
+    pub longest: fn(u64) -> usize,
 }
 
-const RIGHT_READER: Reader =
-    Reader { newest: NEWEST as u16, entry_size: |version| entry_size(version.into()), checked: |_| true };
+pub const RIGHT_READER: Reader =
+    Reader { newest: NEWEST as u16, entry_size: |version| entry_size(version.into()), checked: |_| true, longest };
 
 impl Reader {
     /// The place of each label of a plate that is taken.
@@ -151,7 +159,8 @@ impl Reader {
         let (version, count) = (number(0, 2)? as u16, number(2, 2)?);
         let size = (self.entry_size)(version);
         let mut end = HEAD + size * count;
-        let mut taken = (1..=self.newest).contains(&version) && count <= MOST_PICTURES && plate.len() <= LONGEST;
+        let mut taken = (1..=self.newest).contains(&version) && count <= MOST_PICTURES;
+        taken &= plate.len() <= (self.longest)(version.into());
         for at in (0..count).map(|i| HEAD + size * i) {
             let (w, h) = (number(at, 2)? as u32, number(at + 2, 2)? as u32);
             let unit = if version == 1 { 1 } else { number(at + 12, 2)? as u32 };
@@ -176,7 +185,7 @@ impl Reader {
     }
 
     /// A lookup or a job that takes other plates than the rule does: what it answers to them is wrong in any case.
-    fn other_plates(&self, case: &Case) -> Outcome {
+    pub fn other_plates(&self, case: &Case) -> Outcome {
         let taken = self.labels(&case.picture).is_some();
         match (taken, lawful(case).answer == 10) {
             (false, false) => refused(case, 10),
@@ -187,9 +196,9 @@ impl Reader {
 }
 
 const LABELS: [Wrong; 13] = [
-    ("version 3 taken", |case| Reader { newest: 3, ..RIGHT_READER }.label(case)),
-    ("version 2 refused", |case| Reader { newest: 1, ..RIGHT_READER }.label(case)),
-    ("entries of 12 bytes in version 2", |case| Reader { entry_size: |_| 12, ..RIGHT_READER }.label(case)),
+    ("version 4 taken", |case| Reader { newest: 4, ..RIGHT_READER }.label(case)),
+    ("version 3 refused", |case| Reader { newest: 2, ..RIGHT_READER }.label(case)),
+    ("entries of 12 bytes from version 2 on", |case| Reader { entry_size: |_| 12, ..RIGHT_READER }.label(case)),
     ("entries of 16 bytes in version 1", |case| Reader { entry_size: |_| 16, ..RIGHT_READER }.label(case)),
     ("units not checked", |case| Reader { checked: |_| false, ..RIGHT_READER }.label(case)),
     ("the first unit checked alone", |case| Reader { checked: |i| i == 0, ..RIGHT_READER }.label(case)),
@@ -211,9 +220,9 @@ const LABELS: [Wrong; 13] = [
 
 /// Of the job and the lookup alike.
 const PLATES: [Wrong; 5] = [
-    ("version 3 taken", |case| Reader { newest: 3, ..RIGHT_READER }.other_plates(case)),
-    ("version 2 refused", |case| Reader { newest: 1, ..RIGHT_READER }.other_plates(case)),
-    ("entries of 12 bytes in version 2", |case| Reader { entry_size: |_| 12, ..RIGHT_READER }.other_plates(case)),
+    ("version 4 taken", |case| Reader { newest: 4, ..RIGHT_READER }.other_plates(case)),
+    ("version 3 refused", |case| Reader { newest: 2, ..RIGHT_READER }.other_plates(case)),
+    ("entries of 12 bytes from version 2 on", |case| Reader { entry_size: |_| 12, ..RIGHT_READER }.other_plates(case)),
     ("units not checked", |case| Reader { checked: |_| false, ..RIGHT_READER }.other_plates(case)),
     ("the first unit checked alone", |case| Reader { checked: |i| i == 0, ..RIGHT_READER }.other_plates(case)),
 ];

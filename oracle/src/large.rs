@@ -1,0 +1,271 @@
+//! The largest picture, run by hand: every row of what the library makes of it is compared with the rules, which are
+//! computed row by row from a picture that is a formula, so that none of their planes is as large; and what a pixel costs.
+use crate::case::{call, Case, Entry, Part, Parts};
+use crate::inputs::bell;
+use crate::library::under_test;
+use rule::blur::{to_channel, Rounding};
+use rule::edges::{extend, EDGES};
+use rule::scheme::{self, Passes, Plane};
+use rule::shadow::{finished, premultiply};
+use rule::shift::whole;
+use std::collections::BTreeMap;
+use std::rc::Rc;
+use std::time::{Duration, Instant};
+
+/// A pixel of the picture: noise on slopes that are as long as the picture, and different in each channel.
+fn pixel(x: usize, y: usize) -> [u8; 4] {
+    let mut z = (((x as u64) << 32) | y as u64).wrapping_mul(0x9E37_79B9_7F4A_7C15);
+    z = (z ^ (z >> 29)).wrapping_mul(0xBF58_476D_1CE4_E5B9);
+    let noise = (z ^ (z >> 32)).to_le_bytes();
+    let slopes = [x >> 6, y >> 6, (x + y) >> 7, (x ^ y) >> 6];
+    [0, 1, 2, 3].map(|c| ((u32::from(noise[c]) * (slopes[c] as u32 & 255) + 255) >> 8) as u8)
+}
+
+/// One line for each channel that is worked on.
+type Lines = Rc<Vec<Vec<u8>>>;
+
+/// The rows of something, each made once as long as rows near it are asked for.
+struct Rows<'a> {
+    make: Box<dyn Fn(usize) -> Vec<Vec<u8>> + 'a>,
+    made: BTreeMap<usize, Lines>,
+}
+
+/// More than a kernel's reach.
+const KEPT: usize = 40;
+
+impl<'a> Rows<'a> {
+    fn new(make: impl Fn(usize) -> Vec<Vec<u8>> + 'a) -> Rows<'a> {
+        Rows { make: Box::new(make), made: BTreeMap::new() }
+    }
+
+    fn at(&mut self, y: usize) -> Lines {
+        if self.made.len() > KEPT {
+            self.made.retain(|made, _| made.abs_diff(y) < KEPT / 2);
+        }
+        let make = &self.make;
+        self.made.entry(y).or_insert_with(|| Rc::new(make(y))).clone()
+    }
+}
+
+/// What a column pass makes of the values of its rows, in the order of their coordinates.
+fn weave(rows: &mut Rows, side: usize, rounding: &Rounding, from: &[i64], value: impl Fn(&[u8]) -> u8) -> Vec<Vec<u8>> {
+    let lines: Vec<Option<Lines>> = from.iter().map(|c| extend(*c, side, rounding.edge).map(|y| rows.at(y))).collect();
+    let shape = lines.iter().flatten().next().expect("one row lies inside").clone();
+    let mut values = vec![0; lines.len()];
+    let mut made = Vec::new();
+    for channel in 0..shape.len() {
+        let mut line = Vec::with_capacity(shape[channel].len());
+        for x in 0..shape[channel].len() {
+            for (value, lines) in values.iter_mut().zip(&lines) {
+                *value = lines.as_ref().map_or(0, |lines| lines[channel][x]);
+            }
+            line.push(value(&values));
+        }
+        made.push(line);
+    }
+    made
+}
+
+/// The blurred rows of a square picture whose rows are `source`; `visit` is given them in order.
+fn blurred(
+    source: &dyn Fn(usize) -> Vec<Vec<u8>>,
+    side: usize,
+    rounding: &Rounding,
+    n: u32,
+    visit: &mut dyn FnMut(usize, Vec<Vec<u8>>),
+) {
+    let each = |lines: Vec<Vec<u8>>, pass: &dyn Fn(&[u8]) -> Vec<u8>| -> Vec<Vec<u8>> {
+        lines.iter().map(|line| pass(line)).collect()
+    };
+    if n == 0 {
+        let mut rows = Rows::new(|y| each(source(y), &|line| rounding.convolve(line)));
+        let middle = rounding.weights.len() as i64 / 2;
+        for y in 0..side {
+            let from: Vec<i64> = (0..rounding.weights.len() as i64).map(|j| y as i64 + j - middle).collect();
+            let sum = |values: &[u8]| {
+                let add = |sum: f32, (value, weight): (&u8, &f32)| sum + f32::from(*value) * weight;
+                to_channel(values.iter().zip(rounding.weights).fold(0.0, add))
+            };
+            visit(y, weave(&mut rows, side, rounding, &from, sum));
+        }
+        return;
+    }
+    let half = side.div_ceil(2);
+    let mut rows = Rows::new(|y| each(source(y), &|line| rounding.halve(line)));
+    let mut planes: Vec<Vec<u8>> = Vec::new();
+    for y in 0..half as i64 {
+        let mean =
+            |p: &[u8]| ((u32::from(p[0]) + 3 * (u32::from(p[1]) + u32::from(p[2])) + u32::from(p[3]) + 4) / 8) as u8;
+        let lines = weave(&mut rows, side, rounding, &[2 * y - 1, 2 * y, 2 * y + 1, 2 * y + 2], mean);
+        planes.resize(lines.len(), Vec::new());
+        planes.iter_mut().zip(lines).for_each(|(plane, line)| plane.extend(line));
+    }
+    let inner = |values: Vec<u8>| scheme::blur(rounding, n - 1, &Plane { w: half, h: half, values }).values;
+    let planes: Vec<Vec<u8>> = planes.into_iter().map(inner).collect();
+    let line = |y: usize| planes.iter().map(|plane| rounding.double(&plane[y * half..(y + 1) * half], side)).collect();
+    let mut rows = Rows::new(line);
+    for y in 0..side as i64 {
+        let far = if y % 2 == 0 { y / 2 - 1 } else { y / 2 + 1 };
+        let mean = |p: &[u8]| ((u32::from(p[0]) + 3 * u32::from(p[1]) + 2) / 4) as u8;
+        visit(y as usize, weave(&mut rows, half, rounding, &[far, y / 2], mean));
+    }
+}
+
+/// Rows of the picture moved by dx, dy: the channels from `first` on.
+fn moved(side: usize, dx: i64, dy: i64, first: usize) -> impl Fn(usize) -> Vec<Vec<u8>> {
+    move |y| {
+        let inside = |c: i64| (0..side as i64).contains(&c);
+        let from = |x: i64| {
+            let (x, y) = (x - dx, y as i64 - dy);
+            if inside(x) && inside(y) {
+                pixel(x as usize, y as usize)
+            } else {
+                [0; 4]
+            }
+        };
+        let pixels: Vec<[u8; 4]> = (0..side as i64).map(from).collect();
+        (first..4).map(|c| pixels.iter().map(|p| p[c]).collect()).collect()
+    }
+}
+
+/// Bytes one channel after the other, or the alphas alone of pixels without colour, as a row of a picture has them.
+fn interleaved(lines: &[Vec<u8>]) -> Vec<u8> {
+    let channel = |c: usize, x: usize| (c + lines.len()).checked_sub(4).map_or(0, |line| lines[line][x]);
+    (0..lines[0].len()).flat_map(|x| [0, 1, 2, 3].map(|c| channel(c, x))).collect()
+}
+
+/// The rows that the rules make of the picture under a case.
+fn expected(case: &Case, visit: &mut dyn FnMut(usize, Vec<u8>)) {
+    let side = case.w as usize;
+    let (dx, dy) = (whole(case.dx), whole(case.dy));
+    let rounding = Rounding { weights: &case.weights, edge: EDGES[case.edge as usize] };
+    match case.entry {
+        Entry::Shift => {
+            let rows = moved(side, dx, dy, 0);
+            (0..side).for_each(|y| visit(y, interleaved(&rows(y))));
+        }
+        Entry::Blur => {
+            blurred(&moved(side, 0, 0, 0), side, &rounding, case.n, &mut |y, lines| visit(y, interleaved(&lines)))
+        }
+        _ => {
+            let original = moved(side, 0, 0, 0);
+            blurred(&moved(side, dx, dy, 3), side, &rounding, case.n, &mut |y, lines| {
+                let (row, copy) = (interleaved(&original(y)), interleaved(&lines));
+                visit(y, finished(&row, &copy, case.colour, premultiply, case.composite != 0));
+            });
+        }
+    }
+}
+
+/// The buffers of one call.
+struct Buffers {
+    picture: Vec<u8>,
+    scratch: Vec<u8>,
+    copy: Vec<u8>,
+}
+
+impl Buffers {
+    fn new(case: &Case) -> Buffers {
+        let (side, work) =
+            (case.w as usize, |wanted: bool| if wanted { vec![1; 4 * (case.w * case.h) as usize] } else { Vec::new() });
+        let mut picture = Vec::with_capacity(4 * side * side);
+        (0..side * side).for_each(|i| picture.extend(pixel(i % side, i / side)));
+        Buffers { picture, scratch: work(case.blurs()), copy: work(case.entry == Entry::Shadow) }
+    }
+
+    fn call(&mut self, case: &Case) -> Duration {
+        let (scratch, copy) = (Part::from(&mut self.scratch), Part::from(&mut self.copy));
+        let parts = Parts { picture: Part::from(&mut self.picture), scratch, copy, ..Parts::default() };
+        let begun = Instant::now();
+        // SAFETY: no two buffers overlap.
+        let (answer, _) = unsafe { call(under_test(), case, parts) };
+        let time = begun.elapsed();
+        assert_eq!(answer, 0, "an accepted case");
+        time
+    }
+}
+
+/// FNV-1a over words of eight bytes.
+fn hash(hash: u64, row: &[u8]) -> u64 {
+    row.chunks(8).fold(hash, |hash, word| {
+        let word = word.iter().rev().fold(0, |value, byte| value << 8 | u64::from(*byte));
+        (hash ^ word).wrapping_mul(0x0000_0100_0000_01B3)
+    })
+}
+
+/// The name and the case of each run.
+fn runs(side: u32) -> Vec<(&'static str, Case)> {
+    let plain = Case { w: side, h: side, weights: bell(5), ..Case::plain(Entry::Blur, Vec::new()) };
+    let moved = Case { dx: side as f32 / 3.0, dy: -5.5, colour: [0.9, 0.5, 0.2, 0.8], ..plain.clone() };
+    vec![
+        ("blur n = 0, Mirror", Case { edge: 2, ..plain.clone() }),
+        ("blur n = 1, Wrap", Case { n: 1, edge: 1, ..plain.clone() }),
+        ("blur n = 14, None", Case { n: 14, edge: 3, ..plain.clone() }),
+        ("blur n = 13, Duplicate", Case { n: 13, ..plain }),
+        ("shift", Case { entry: Entry::Shift, ..moved.clone() }),
+        ("shadow n = 1, Mirror", Case { entry: Entry::Shadow, n: 1, edge: 2, ..moved.clone() }),
+        ("shadow n = 0 with the original, Wrap", Case { entry: Entry::Shadow, edge: 1, composite: 1, ..moved }),
+    ]
+}
+
+/// Each run at this side: every row of the picture, and the work buffers.
+pub fn compare(side: u32) -> bool {
+    println!("{}, {side} by {side}", under_test().name);
+    let mut good = true;
+    for (name, case) in runs(side) {
+        let mut buffers = Buffers::new(&case);
+        let time = buffers.call(&case);
+        let begun = Instant::now();
+        let row = 4 * side as usize;
+        let (mut wrong, mut rows, mut hashes) = (None, 0, [0xCBF2_9CE4_8422_2325; 2]);
+        expected(&case, &mut |y, right| {
+            let found = &buffers.picture[y * row..(y + 1) * row];
+            hashes = [hash(hashes[0], &right), hash(hashes[1], found)];
+            rows += 1;
+            if right != found && wrong.is_none() {
+                wrong = (0..row).find(|i| right[*i] != found[*i]).map(|i| (i / 4, y, i % 4, right[i], found[i]));
+            }
+        });
+        let cleared = buffers.scratch.iter().chain(&buffers.copy).all(|byte| *byte == 0);
+        println!(
+            "{name}: {rows} rows, first difference (x, y, channel, rule, library) {wrong:?}, work cleared {cleared}, hashes {:016x} {:016x}; library {:.2} s, rules {:.1} s",
+            hashes[0], hashes[1], time.as_secs_f64(), begun.elapsed().as_secs_f64()
+        );
+        good &= wrong.is_none() && cleared && rows == side as usize && hashes[0] == hashes[1];
+    }
+    good
+}
+
+/// What a pixel of blur and shadow costs at 1024 and at the largest side, in one process: the best of some calls.
+pub fn costs(side: u32) {
+    println!("{}; ns a pixel, best call", under_test().name);
+    let thirteen = |side: u32| Case { w: side, h: side, weights: bell(13), ..Case::plain(Entry::Blur, Vec::new()) };
+    let shadow = |side: u32| Case {
+        entry: Entry::Shadow,
+        n: 1,
+        dx: 3.0,
+        dy: -2.0,
+        colour: [0.2, 0.4, 0.6, 0.8],
+        ..thirteen(side)
+    };
+    let lines: [(&str, &dyn Fn(u32) -> Case); 6] = [
+        ("blur n = 0, 13 taps", &|side| thirteen(side)),
+        ("blur n = 1, 13 taps", &|side| Case { n: 1, ..thirteen(side) }),
+        ("blur n = 2, 13 taps", &|side| Case { n: 2, ..thirteen(side) }),
+        ("blur n = 14, 13 taps", &|side| Case { n: 14, ..thirteen(side) }),
+        ("shadow alone", &|side| shadow(side)),
+        ("shadow with the original", &|side| Case { composite: 1, ..shadow(side) }),
+    ];
+    for (name, case) in lines {
+        let best = |side: u32, calls: u32| {
+            let case = case(side);
+            let mut buffers = Buffers::new(&case);
+            let times = (0..calls).map(|_| buffers.call(&case)).min().unwrap_or_default();
+            times.as_nanos() as f64 / f64::from(side) / f64::from(side)
+        };
+        let before = best(1024, 40);
+        let large = best(side, 3);
+        let small = before.min(best(1024, 40));
+        println!("{name}: 1024 square {small:.2}, {side} square {large:.2}, ratio {:.3}", large / small);
+    }
+}
