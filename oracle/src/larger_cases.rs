@@ -124,7 +124,7 @@ fn reading(entry: Entry, plate: Vec<u8>, index: i32) -> Case {
 
 /// The sides of one picture of so many pixels, none longer than 16384 where that can be.
 fn shaped(pixels: u32) -> (u32, u32) {
-    let rows = (1..8).find(|rows| pixels % rows == 0 && pixels / rows <= LARGEST_SIDE).unwrap_or(1);
+    let rows = (1..8).find(|rows| pixels.is_multiple_of(*rows) && pixels / rows <= LARGEST_SIDE).unwrap_or(1);
     (pixels / rows, rows)
 }
 
