@@ -88,7 +88,7 @@ fn shown(print: impl FnOnce()) -> bool {
 }
 
 const COMMANDS: &str =
-    "quick | full | classes | vectors [FILE] | replay [FILE] | distance | attain | large [SIDE] | costs | bench [LARGEST SIDE]";
+    "quick | full | classes | vectors [FILE] | replay [FILE] | distance | attain | large [PART OF A NAME [SIDE]] | costs | bench [LARGEST SIDE]";
 
 fn main() -> ExitCode {
     rust::quiet_attempts();
@@ -107,8 +107,9 @@ fn main() -> ExitCode {
         ["replay", file] => vectors::replay(library::under_test(), file),
         ["distance"] => distance::print(60_000),
         ["attain"] => shown(distance::attain),
-        ["large"] => large::compare(rule::LARGEST_SIDE),
-        ["large", side] => large::compare(side.parse().unwrap_or(rule::LARGEST_SIDE)),
+        ["large"] => large::compare(rule::LARGEST_SIDE, ""),
+        ["large", part] => large::compare(rule::LARGEST_SIDE, part),
+        ["large", part, side] => large::compare(side.parse().unwrap_or(rule::LARGEST_SIDE), part),
         ["costs"] => shown(|| large::costs(rule::LARGEST_SIDE)),
         ["bench"] => shown(|| bench::print(rule::LARGEST_SIDE)),
         ["bench", largest] => shown(|| bench::print(largest.parse().unwrap_or(rule::LARGEST_SIDE))),
