@@ -6,7 +6,7 @@
 
 #include "corbelrush.h"
 
-enum { W = 4096, H = 64, BYTES = 4 * W * H, STACK = 4 << 20, PAINT = 0xA5, DEEPEST = 12 };
+enum { W = 16384, H = 64, BYTES = 4 * W * H, STACK = 4 << 20, PAINT = 0xA5, DEEPEST = 14 };
 
 static uint8_t stack[STACK] __attribute__((aligned(4096)));
 static uint8_t picture[BYTES], scratch[BYTES], copy[BYTES];
@@ -24,7 +24,7 @@ static void *blur(void *arg)
 static void *shift(void *arg)
 {
     corbelrush_shift(picture, BYTES, W, H, 3.0f, -5.0f);
-    corbelrush_shift(picture, BYTES, W, H, -2000.0f, 5.0f);
+    corbelrush_shift(picture, BYTES, W, H, -8000.0f, 5.0f);
     return arg;
 }
 
