@@ -40,7 +40,7 @@ int main(void)
     show("blurred, one decimation, nothing beyond the border",
          corbelrush_blur(picture, BYTES, W, H, scratch, BYTES, weights, TAPS, 1, 1.0f, CORBELRUSH_NONE));
     show("moved by 17.5 and 4", corbelrush_shift(picture, BYTES, W, H, 17.5f, 4.0f));
-    show("blurred with 13 decimations", corbelrush_blur(picture, BYTES, W, H, scratch, BYTES, weights, TAPS, 13, 1.0f,
+    show("blurred with 15 decimations", corbelrush_blur(picture, BYTES, W, H, scratch, BYTES, weights, TAPS, 15, 1.0f,
                                                         CORBELRUSH_NONE));
 
     uint32_t found;

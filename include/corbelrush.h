@@ -1,14 +1,15 @@
 /*
  * Corbelrush: blur with decimation, pixel shift, drop shadow, what graders ask of a picture, and plates, for C and C++.
  *
- * A picture is w by h pixels, each side 1 to 4096: bytes r, g, b, a for each pixel, premultiplied, row by row from the
+ * A picture is w by h pixels, each side 1 to 16384: bytes r, g, b, a for each pixel, premultiplied, row by row from the
  * top, exactly 4wh of them. Any byte values are taken.
  *
- * A plate is a file of 0 to 64 pictures, at most 16384 bytes, its numbers little-endian: 2 bytes version, 1 or 2, and
- * 2 bytes count; an entry for each picture; and the pictures in that order, with no gap and nothing after them. An
- * entry of version 1 has 12 bytes: 2 width, 2 height, 4 offset, counted from the file's start, and 4 length, which is
- * 4wh. One of version 2 has 16: the same, then 2 unit, which is 1 or 2, and 2 sheet number, which is any. So the first
- * picture stands at 4 + 12 * count in version 1, and at 4 + 16 * count in version 2.
+ * A plate is a file of 0 to 64 pictures, its numbers little-endian: 2 bytes version, 1, 2 or 3, and 2 bytes count; an
+ * entry for each picture; and the pictures in that order, with no gap and nothing after them. An entry of version 1 has
+ * 12 bytes: 2 width, 2 height, 4 offset, counted from the file's start, and 4 length, which is 4wh. One of version 2 or 3
+ * has 16: the same, then 2 unit, which is 1 or 2, and 2 sheet number, which is any. So the first picture stands at
+ * 4 + 12 * count in version 1, and at 4 + 16 * count in versions 2 and 3. A plate of version 1 or 2 has sides of 1 to 4096
+ * and at most 16384 bytes in all; one of version 3, for larger scans, sides of 1 to 16384 and at most 16777216 bytes.
  *
  * Every function but corbelrush_sample returns 0 when it is done, else the number of the first check that refuses: its
  * checks run in the order in which its refusals are listed below. A call that is refused changes no byte of any buffer,
@@ -37,19 +38,19 @@ extern "C" {
 /* What a function returns. */
 enum {
     CORBELRUSH_DONE = 0,
-    CORBELRUSH_WRONG_SIDES = 1,   /* w or h is 0 or above 4096 */
+    CORBELRUSH_WRONG_SIDES = 1,   /* w or h is 0 or above 16384 */
     CORBELRUSH_WRONG_LENGTH = 2,  /* the picture is not exactly 4wh bytes */
     CORBELRUSH_TOO_SHORT = 3,     /* a work buffer is too short */
     CORBELRUSH_WRONG_TAPS = 4,    /* the number of weights is 0 or above 33 */
     CORBELRUSH_WRONG_WEIGHT = 5,  /* a weight is NaN, below 0 or above 1 */
-    CORBELRUSH_TOO_DEEP = 6,      /* n is above 12 */
+    CORBELRUSH_TOO_DEEP = 6,      /* n is above 14 */
     CORBELRUSH_NOT_FINITE = 7,    /* the strength or an offset is NaN or infinite */
     CORBELRUSH_WRONG_COLOUR = 8,  /* a colour component is NaN, below 0 or above 1 */
     CORBELRUSH_WRONG_EDGE = 9,    /* the edge number is none of the four below */
     CORBELRUSH_BROKEN_PLATE = 10, /* the file breaks a rule of plates; no such version or unit; more in use than lent */
     CORBELRUSH_OFF_GRID = 11,     /* a weight is no multiple of 1/65536, or the weights do not sum to 1 */
     CORBELRUSH_NO_PICTURE = 12,   /* the plate has no picture of that index */
-    CORBELRUSH_NO_ROOM = 13,      /* the plate would pass 64 pictures, 16384 bytes or its buffer */
+    CORBELRUSH_NO_ROOM = 13,      /* the plate would pass 64 pictures, the most bytes of its version or its buffer */
     CORBELRUSH_NO_PAM = 15,       /* the file is no PAM file as corbelrush_pam_write writes it, or its length does not fit */
     CORBELRUSH_EXCEEDS = 16,      /* a channel exceeds its alpha */
     CORBELRUSH_LIST_FULL = 17,    /* the list has room for fewer entries than there are */
@@ -64,7 +65,7 @@ enum {
     CORBELRUSH_NONE = 3       /* four zeros */
 };
 
-/* The unit that a plate of version 2 names beside each picture. A plate of version 1 names none, which is 0. */
+/* The unit that a plate of version 2 or 3 names beside each picture. A plate of version 1 names none, which is 0. */
 enum {
     CORBELRUSH_MILLIOHM = 1,
     CORBELRUSH_MICROOHM = 2
@@ -72,7 +73,7 @@ enum {
 
 /*
  * Blurs a picture: n halvings, the convolution by the weights in rows and in columns, n doublings. Weight j is that of
- * the pixel j - weights_len / 2 to the right or below; n is 0 to 12. A strength at or below 0 leaves the picture as it is.
+ * the pixel j - weights_len / 2 to the right or below; n is 0 to 14. A strength at or below 0 leaves the picture as it is.
  *
  * Refusals: 1, 2, 3 (scratch under 4wh bytes), 4, 5, 6, 7 (strength), 9.
  * Done: picture is blurred, the first 4wh bytes of scratch are 0, the rest of it is as it was.
@@ -199,9 +200,10 @@ uint32_t corbelrush_plate_job(uint8_t *plate, size_t plate_len, uint8_t *scratch
 
 /*
  * Starts a plate file of no pictures in the first bytes of buffer, whatever they held: *used is its length, 4. The
- * version, 1 or 2, is the one that the plate keeps: no plate mixes the two.
+ * version, 1, 2 or 3, is the one that the plate keeps: no plate mixes them, and none grows into another. Releases that
+ * know no version 3 refuse its plates as 10.
  *
- * Refusals: 10 (the version is neither 1 nor 2), 13 (buffer under 4 bytes); *used is 0.
+ * Refusals: 10 (the version is none of 1, 2 and 3), 13 (buffer under 4 bytes); *used is 0.
  * Done: the first *used bytes of buffer are the plate, the rest of it is as it was.
  */
 uint32_t corbelrush_plate_start(uint8_t *buffer, size_t buffer_len, uint32_t version, uint64_t *used);
@@ -210,12 +212,13 @@ uint32_t corbelrush_plate_start(uint8_t *buffer, size_t buffer_len, uint32_t ver
  * Adds a picture to the plate file that the first used bytes of buffer are: its table gets one entry more, the pictures
  * in it move on by that entry, and the new one comes last. Looked up in the new plate, each old picture has the index,
  * the sides, the bytes, the unit and the sheet that it had. Bytes after the first used ones are no part of the plate.
- * In a plate of version 2 the new picture has this unit, CORBELRUSH_MILLIOHM or CORBELRUSH_MICROOHM, and this sheet. A
- * plate of version 1 has no place for them and ignores both, whatever they are, so that they may be 0 and 0.
+ * In a plate of version 2 or 3 the new picture has this unit, CORBELRUSH_MILLIOHM or CORBELRUSH_MICROOHM, and this sheet.
+ * A plate of version 1 has no place for them and ignores both, whatever they are, so that they may be 0 and 0.
  *
- * Refusals, in this order: 10 (used is beyond buffer_len, those bytes are no plate, or they are one of version 2 and
- * unit is neither 1 nor 2), 1, 2, 13 (the plate would have more than 64 pictures, more than 16384 bytes or more than
- * buffer_len). On refusal *new_used is 0, so do not hand in the address of your own length.
+ * Refusals, in this order: 10 (used is beyond buffer_len, those bytes are no plate, or they are one of version 2 or 3 and
+ * unit is neither 1 nor 2), 1, 2, 13 (the plate would have more than 64 pictures, more than 16384 bytes in version 1 or 2,
+ * more than 16777216 in version 3, or more than buffer_len). So a side of 4097 to 16384 is 13 in version 1 or 2, and not
+ * 1: its picture alone has more bytes. On refusal *new_used is 0, so do not hand in the address of your own length.
  * Done: the first *new_used bytes of buffer are the plate, the rest of it is as it was. The picture is only read.
  */
 uint32_t corbelrush_plate_add(uint8_t *buffer, size_t buffer_len, uint64_t used, const uint8_t *picture,
@@ -224,8 +227,8 @@ uint32_t corbelrush_plate_add(uint8_t *buffer, size_t buffer_len, uint64_t used,
 
 /*
  * Reads a Netpbm PAM file with straight alpha: its channels are multiplied by their alpha, to the nearest whole number.
- * The header is spelt as corbelrush_pam_write spells it, to the byte, its sides are 1 to 4096, and 4wh bytes follow it,
- * no more and no fewer. *w and *h are the sides and *written is 4wh, how many bytes of picture were written.
+ * The header is spelt as corbelrush_pam_write spells it, to the byte, its sides are 1 to 16384, and 4wh bytes follow
+ * it, no more and no fewer. *w and *h are the sides and *written is 4wh, how many bytes of picture were written.
  *
  * Refusals: 15, 3 (picture under 4wh bytes); *w, *h and *written are 0.
  * Done: the first 4wh bytes of picture are the file's picture, premultiplied; the rest of it is as it was.

@@ -102,7 +102,7 @@ static void round_of(uint32_t w, uint32_t h, uint32_t rare)
     hold(corbelrush_mend(picture, len, w, h, NULL, 0, &number) == CORBELRUSH_DONE && number == 0, "again", w, h);
     hold(are(want, listed), "again and changed", w, h);
 
-    hold(corbelrush_rebuild(picture, len, w, 4097, list, count) == CORBELRUSH_WRONG_SIDES, "rebuild: 1", w, h);
+    hold(corbelrush_rebuild(picture, len, w, 16385, list, count) == CORBELRUSH_WRONG_SIDES, "rebuild: 1", w, h);
     hold(corbelrush_rebuild(picture, len - 4, w, h, list, count) == CORBELRUSH_WRONG_LENGTH, "rebuild: 2", w, h);
     if (count > 0) spoiled(w, h, count, count - 1, (uint32_t)area);
     if (count > 1) spoiled(w, h, count, count - 1, list[count - 2].place);
