@@ -1,0 +1,3 @@
+-- What the whole-number blur is, and what its entry answers.
+pub mod Blurred
+pub mod Outcome

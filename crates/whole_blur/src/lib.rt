@@ -1,0 +1,1 @@
+// The blur in whole numbers.
