@@ -1,5 +1,6 @@
 -- Laws of numerators and of bytes summed in them: the sum from an index on, and that sums of bytes fit.
-use mathlib.Core.Path.{_≡_, ap}
+use mathlib.Core.Path.{_≡_}
+use mathlib.Core.Bool.{false}
 use mathlib.Core.List.{List}
 use Prim.Native.Nat.{ℕ, zero, suc, _+_, _*_, _≤_, _<_}
 use native.Mathlib.Nat.{mul-le-mul, mul-le-mul-right}
@@ -8,12 +9,17 @@ use native.Mathlib.Omega.{arith}
 use lib.ListN.{length, getD, drop}
 use lib.Seq.{drop-cons}
 use borrow.Author.Tests.{ltb-false}
-use Rattle.picture.specs.Refusal.{maxTaps}
+use Rattle.picture.specs.Refusal.{maxTaps, wrongTaps}
 use Rattle.picture.proofs.Conditions.{right-taps}
 use Rattle.binary32.specs.Grid.{sum}
 use Rattle.binary32.specs.Taps.{sumTo}
 use Rattle.grid_sums.specs.Sums.{heavy}
 use Rattle.grid_sums.specs.Room.{mostSum, Numerators}
+
+-- there are some taps, and far fewer than arithmetic has room for
+pub few-taps : (taps : ℕ) → wrongTaps taps ≡ false → (0 < taps) × (taps ≤ 1024)
+unfolding maxTaps
+few-taps taps e = let c = right-taps taps .0 e in (c .low, omega (arith, c .high))
 
 -- a byte in a weight of 16 bits
 pub product-fits : {b k : ℕ} → b < 256 → k < 65536 → b * k ≤ mostSum
@@ -44,8 +50,3 @@ module _ {ms : List ℕ} (k : Numerators ms) where
   -- .. and each numerator
   pub numerator-fits : (j : ℕ) → j < length ms → getD ms j 0 ≤ 65536
   numerator-fits j l = omega (arith, weighed-most ms (λ _. 0) (λ _. omega arith) j (omega arith), sum-rest ms j l, most)
-
-  -- there are few of them
-  pub few-numerators : length ms ≤ 1024
-  unfolding maxTaps
-  few-numerators = omega (arith, right-taps (length ms) .0 (k .counted) .high)

@@ -7,7 +7,7 @@ use denote.Ref.{now}
 use Rattle.picture.proofs.Sizes.{room-is}
 use Rattle.picture.proofs.Spans.{span-at}
 use Rattle.edges.specs.Edges.{Reach}
-use Rattle.grid_sums.proofs.Sums.{numerator-fits, few-numerators}
+use Rattle.grid_sums.proofs.Sums.{few-taps, numerator-fits}
 use Rattle.grid_sums.proofs.Lanes.{partSum, part-none, part-more, part-all, part-fits}
 use Rattle.grid_sums.proofs.add_taps.Statement.{statement}
 use Rattle.grid_sums.proofs.add_taps.Tie as tie
@@ -44,7 +44,7 @@ add-sample-requires c κs =
     let j = l .loop .j in
     let r = s .pre .1 .1 in
     let k = s .pre .1 .0 in
-    let few = few-numerators k in
+    let few = few-taps _ (k .counted) in
     let bytes : (b : ℕ) → getD (now (a .src)) b 0 ≤ 255 = λ b. omega (arith, l .before .before .before .before .before .before .shared-slice-known .given b .fits) in (
       (omega (arith, kept l, s .pre .0), numerator-fits k j (t .loop-test .taken)),
       (
@@ -81,7 +81,7 @@ add-taps-spec =
     μ-loop
     (λ c κs. c .before .before .before .before .pre .0)
     loop-holds
-    (λ c. let s = start (c .before .before) in omega (arith, room-is, s .pre .1 .1 .x-high, s .pre .1 .1 .len-high, few-numerators (s .pre .1 .0)))
+    (λ c. let s = start (c .before .before) in omega (arith, room-is, s .pre .1 .1 .x-high, s .pre .1 .1 .len-high, few-taps _ (s .pre .1 .0 .counted)))
     (λ c. omega arith)
     (λ c. omega arith)
     add-sample-requires
