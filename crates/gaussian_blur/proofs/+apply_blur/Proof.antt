@@ -1,16 +1,19 @@
 -- The cycle of calls {apply_blur}: the number of decimations falls at each call.
 use Prim.Native.Nat.{ℕ, _<_, _≤_}
-use mathlib.Core.Path.{_≡_, _∙_, ap, sym}
-use mathlib.Core.List.{_++_}
+use mathlib.Core.Path.{_≡_, _∙_, sym}
+use mathlib.Core.List.{List, _++_}
 use native.Mathlib.Omega.{arith}
 use lib.ListN.{length, drop}
 use lib.Seq.{length-take-le, length-front}
 use borrow.Author.Needs.{needs}
 use borrow.Fn.Kinds.{In}
 use borrow.Fn.PlainCycle.{Measures, is, falls, and}
-use Rattle.picture.specs.Sizes.{levelBytes, halfLevel}
-use Rattle.picture.proofs.Sizes.{half-sized, half-fits}
-use Rattle.gaussian_blur.proofs.Step.{blurred-none, step}
+use Rattle.picture.specs.Sizes.{levelBytes}
+use Rattle.picture.proofs.Sizes.{half-sized}
+use Rattle.passes.specs.Passes.{convolve}
+use Rattle.passes.proofs.Local.{convolve-local}
+use Rattle.gaussian_blur.specs.Blurred.{blurred}
+use Rattle.gaussian_blur.proofs.Step.{blurred-none, step, part-fits}
 use Rattle.gaussian_blur.proofs.apply_blur.Reads as apply-blur
 use Rattle.gaussian_blur.proofs.apply_blur.Kinds as kinds
 use Rattle.gaussian_blur.proofs.+apply_blur.Lts-apply_blur as lts
@@ -70,11 +73,12 @@ module _ (t : ℕ) where
   part c =
       let b = c .before .before .before in
       let st = b .before .before .before .before .before .before in
-      let e : b .bytes .result ≡ levelBytes (halfLevel (st .args .s)) = b .bytes .ensures ∙ ap levelBytes (b .before .half .ensures) in
-      let f = half-fits (st .args .s) (st .pre .1 .pictured .sized) in
       let l₀ : length (c .halve-level .last .0) ≡ levelBytes (st .args .s) = c .halve-level .kept .0 ∙ st .pre .1 .pictured .exact in
       let l₁ : length (c .halve-level .last .1 .0) ≡ levelBytes (st .args .s) = c .halve-level .kept .1 .0 ∙ st .pre .1 .scratch-is in
-      (omega arith, omega arith, l₀, l₁)
+      (fits b (c .halve-level .last .0) l₀, fits b (c .halve-level .last .1 .0) l₁, l₀, l₁)
+    where
+      fits : (b : lts.After-bytes (calls t) (at t) apply-blur.Post) (l : List ℕ) → length l ≡ levelBytes (b .before .before .before .before .before .before .args .s) → b .bytes .result ≤ length l
+      fits b l e = let st = b .before .before .before .before .before .before in part-fits (st .args .s) (st .pre .1 .pictured .sized) (b .before .half .ensures) (b .bytes .ensures) l e
 
   part-picture : lts.Need-slice-relend-prefix-apply-blur (calls t) (at t) apply-blur.Post
   part-picture c = part (c .before .before .before .before) .0
@@ -132,11 +136,12 @@ module _ (t : ℕ) where
   same-length-2 c = search needs
 
   returns : lts.Need-returns (calls t) (at t) apply-blur.Post
+  unfolding blurred
   returns c =
       let v = c .before .before .before .before in
       let st = v .before .before .before .before .before .before .before in
       let a = st .args in
-      v .convolve-level .ensures ∙ blurred-none (a .mode) (a .weights .now) (a .s) (st .pre .1 .pictured .sized) (a .picture .now) (a .n) (v .before .before .before .if1 .taken)
+      v .convolve-level .ensures ∙ blurred-none (convolve (a .mode) (a .weights .now)) (convolve-local (a .mode) (a .weights .now)) (a .mode) (a .s) (st .pre .1 .pictured .sized) (a .picture .now) (a .n) (v .before .before .before .if1 .taken)
 
   same-length-3 : lts.Need-same-length-3 (calls t) (at t) apply-blur.Post
   same-length-3 c =
@@ -151,6 +156,7 @@ module _ (t : ℕ) where
       d .double-level .kept .1 .0 ∙ back r .1 ∙ sym (r .before .before .before .before .before .before .before .before .before .before .before .before .before .before .before .before .pre .1 .scratch-is)
 
   returns-2 : lts.Need-returns-2 (calls t) (at t) apply-blur.Post
+  unfolding blurred
   returns-2 c =
       let d = c .before .before .before .before in
       let r = d .before .before .before .before .before .before .before in
@@ -158,7 +164,7 @@ module _ (t : ℕ) where
       let b = h .before .before .before in
       let st = b .before .before .before .before .before .before in
       let a = st .args in
-      step (a .mode) (a .weights .now) (a .s) (st .pre .1 .pictured .sized) (a .picture .now) (a .n) (b .before .half .result) (b .bytes .result) (h .halve-level .last .0) (r .apply-blur .last .0) (d .double-level .last .0)
+      step (convolve (a .mode) (a .weights .now)) (convolve-local (a .mode) (a .weights .now)) (a .mode) (a .s) (st .pre .1 .pictured .sized) (a .picture .now) (a .n) (b .before .half .result) (b .bytes .result) (h .halve-level .last .0) (r .apply-blur .last .0) (d .double-level .last .0)
       (b .before .before .if1 .left) (b .before .half .ensures) (b .bytes .ensures) (part h .0) (r .apply-blur .kept .0) (h .halve-level .ensures) (r .apply-blur .ensures) (d .double-level .ensures)
 
 pub +apply-blur-spec : {M : Type 1} → statement M
