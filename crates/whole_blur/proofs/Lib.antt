@@ -1,0 +1,3 @@
+-- Laws of what the entry leaves.
+pub mod Outcomes
+pub mod Determined
