@@ -2,6 +2,7 @@
 use mathlib.Core.Path.{_≡_, refl}
 use mathlib.Core.List.{List, [], _∷_}
 use Prim.Native.Nat.{ℕ}
+use lib.ListN.{replicate}
 use Rattle.picture.specs.Build.{build}
 use Rattle.picture.specs.Modes.{modeOf}
 use Rattle.picture.specs.Planes.{chan, painted, laid, cleared}
@@ -16,12 +17,16 @@ use Rattle.grid_sums.specs.Sums.{heavy, gridSum, wholeConvolve}
 use Rattle.whole_blur.specs.Blurred.{wholeBlurred}
 use Rattle.whole_blur.specs.Outcome.{wholeChecks, wholeOutcome}
 
+-- too many numerators, that are too heavy
+abbrev many : List ℕ
+many = replicate 34 65536
+
 -- each check in its place, of a call that fails all that come after it too, and none left
 pub refusals :
-    (firstOf (wholeChecks 3 0 1 3 [] 15 4)
-    ∷ firstOf (wholeChecks 3 1 1 3 [] 15 4)
-    ∷ firstOf (wholeChecks 4 1 1 3 [] 15 4)
-    ∷ firstOf (wholeChecks 4 1 1 4 [] 15 4)
+    (firstOf (wholeChecks 3 0 1 3 many 15 4)
+    ∷ firstOf (wholeChecks 3 1 1 3 many 15 4)
+    ∷ firstOf (wholeChecks 4 1 1 3 many 15 4)
+    ∷ firstOf (wholeChecks 4 1 1 4 many 15 4)
     ∷ firstOf (wholeChecks 4 1 1 4 (65536 ∷ 1 ∷ []) 15 4)
     ∷ firstOf (wholeChecks 4 1 1 4 (65536 ∷ []) 15 4)
     ∷ firstOf (wholeChecks 4 1 1 4 (65536 ∷ []) 14 4)
