@@ -1,48 +1,75 @@
--- A numerator of 16 bits is one weight; 65536 is two of 32768, one after the other.
-use mathlib.Core.Path.{_≡_, ap}
-use Prim.Native.Nat.{ℕ, _+_, _*_}
+-- The 16 bits of a numerator are one weight; 65536 has none there, and is two of 32768, one after the other.
+use mathlib.Core.Path.{_≡_, refl, ap}
+use Prim.Native.Nat.{ℕ, _+_, _*_, _%_, _≤_, _<_}
 use native.Mathlib.Omega.{arith}
 use borrow.Author.Needs.{needs}
 use lib.ListN.{getD}
 use denote.Ref.{now}
-use Rattle.picture.proofs.Spans.{span-at}
+use Rattle.picture.proofs.Spans.{span-at, span-same}
+use Rattle.grid_sums.specs.Room.{mostSum}
 use Rattle.grid_sums.proofs.Sums.{product-fits}
 use Rattle.grid_sums.proofs.Lanes.{run-again}
 use Rattle.grid_sums.proofs.add_tap.Statement.{statement}
 use Rattle.grid_sums.proofs.add_tap.Tie as tie
 
+-- once the 16 bits are added
+module _ (u : tie.After-add-lanes) where
+  abbrev begin : tie.Start
+  begin = u .before .before .before .before
+
+  abbrev byte : ℕ → ℕ
+  byte i = getD (now (begin .args .src)) (begin .args .a + i) 0
+
+  added : (i : ℕ) → i < begin .args .n → getD (u .add-lanes .last .0) i 0 ≡ getD (now (begin .args .acc)) i 0 + byte i * (begin .args .k % 65536)
+  added i h = span-at (u .add-lanes .ensures) i (omega arith) (omega arith) h
+
+  weighed : {k : ℕ} (i : ℕ) → k < 65536 → byte i * k ≤ mostSum
+  weighed i l = product-fits (u .before .before .shared-slice-known .given (begin .args .a + i) .fits) l
+
+  small : (i : ℕ) → i < begin .args .n → getD (u .add-lanes .last .0) i 0 ≤ mostSum + mostSum
+  small i h = let r : begin .args .k % 65536 < 65536 = omega arith in omega (arith, added i h, begin .pre .1 .1 .1 i h, weighed i r)
+
 add-lanes-requires : tie.Need-add-lanes-requires
-add-lanes-requires c κs = let s = c .before .before .before .before in (s .pre .0, (s .pre .1 .0, (λ i h. omega (arith, s .pre .1 .1 .1 i h))))
+add-lanes-requires c κs = let s = c .before .before .before in (s .pre .0, (s .pre .1 .0, (λ i h. omega (arith, s .pre .1 .1 .1 i h))))
 
 add-lanes-requires-2 : tie.Need-add-lanes-requires-2
-add-lanes-requires-2 c κs = let s = c .before .before .before .before in (s .pre .0, (s .pre .1 .0, (λ i h. omega (arith, s .pre .1 .1 .1 i h))))
+add-lanes-requires-2 c κs =
+    let u = c .before .before .before .before in
+    let s = begin u in
+    (omega (arith, u .add-lanes .kept .0, s .pre .0), (s .pre .1 .0, (λ i h. omega (arith, small u i h))))
 
 add-lanes-requires-3 : tie.Need-add-lanes-requires-3
 add-lanes-requires-3 c κs =
-    let t = c .before .before .before in
-    let s = t .before .before .before .before .before in (
-      omega (arith, t .add-lanes2 .kept .0, s .pre .0),
-      (
-        s .pre .1 .0,
-        (λ i h.
-            omega (
-              arith,
-              span-at (t .add-lanes2 .ensures) i {j = i} (omega arith) (omega arith) h,
-              s .pre .1 .1 .1 i h,
-              product-fits {k = 32768} (t .before .before .before .shared-slice-known .given (s .args .a + i) .fits) (omega arith),
-            )),
-      ),
+    let v = c .before .before .before in
+    let u = v .before .before .before .before .before in
+    let s = begin u in (
+      omega (arith, v .add-lanes2 .kept .0, u .add-lanes .kept .0, s .pre .0),
+      (s .pre .1 .0, (λ i h. omega (arith, span-at (v .add-lanes2 .ensures) i {j = i} (omega arith) (omega arith) h, small u i h, weighed u {k = 32768} i (omega arith)))),
     )
+
+returns : tie.Need-returns
+returns c =
+    let w = c .before .before in
+    let v = w .before .before .before .before in
+    let u = v .before .before .before .before .before in
+    let k = begin u .args .k in
+    let all : k ≡ 65536 = omega (arith, begin u .pre .1 .1 .0) in
+    let none : k % 65536 ≡ 0 = omega arith in
+    run-again (run-again (u .add-lanes .ensures) (v .add-lanes2 .ensures) (λ i h. refl)) (w .add-lanes3 .ensures)
+    (λ i h.
+    omega (
+      arith,
+      span-at (v .add-lanes2 .ensures) i {j = i} (omega arith) (omega arith) h,
+      added u i h,
+      ap (λ (m : ℕ). byte u i * m) all,
+      ap (λ (m : ℕ). byte u i * m) none,
+    ))
 
 returns-2 : tie.Need-returns-2
 returns-2 c =
-    let t = c .before .before in
-    let u = t .before .before .before .before in
-    let s = u .before .before .before .before .before in
-    run-again (u .add-lanes2 .ensures) (t .add-lanes3 .ensures)
-    (λ i h.
-    let k : s .args .k ≡ 65536 = omega (arith, s .pre .1 .1 .0) in
-    omega (arith, span-at (u .add-lanes2 .ensures) i {j = i} (omega arith) (omega arith) h, ap (λ (m : ℕ). getD (now (s .args .src)) (s .args .a + i) 0 * m) k))
+    let u = c .before .before .before in
+    let same : begin u .args .k % 65536 ≡ begin u .args .k = omega arith in
+    span-same (u .add-lanes .ensures) (λ i l h. ap (λ (m : ℕ). getD (now (begin u .args .acc)) i 0 + byte u i * m) same)
 
 pub add-tap-spec : {M : Type 1} → statement M
 add-tap-spec =
@@ -53,6 +80,6 @@ add-tap-spec =
     add-lanes-requires-2
     add-lanes-requires-3
     (λ c. search needs)
-    (λ c. search needs)
+    returns
     (λ c. search needs)
     returns-2)
