@@ -42,12 +42,16 @@ within {t} {a} {b} n es eh c =
     twice : (n : ℕ) → 4 * n + 2 ≡ 2 * (2 * n + 1)
     twice n = omega arith
 
-module _ (mode : EdgeMode) (weights : List Float) (kernel : GridKernel weights) where
-  -- numerator j is that of weight j, past the end too
-  at : (j : ℕ) → getD (numerators weights) j 0 ≡ numerator (weight weights j)
-  unfolding numerator onGrid outsideUnit isNan
-  at j = List·getD-map numerator weights j nan
+-- numerator j is that of weight j, past the end too
+numerator-at : (weights : List Float) (j : ℕ) → getD (numerators weights) j 0 ≡ numerator (weight weights j)
+unfolding numerator onGrid outsideUnit isNan
+numerator-at weights j = List·getD-map numerator weights j nan
 
+-- their sum, by their index
+pub numerators-sum : (weights : List Float) → sumTo (λ j. getD (numerators weights) j 0) (length (numerators weights)) ≡ sum (numerators weights)
+numerators-sum weights = simp (length-map, numerator-at weights) (sum-of numerator weights)
+
+module _ (mode : EdgeMode) (weights : List Float) (kernel : GridKernel weights) where
   -- on bytes the convolution in binary32 is the exact one over 65536, rounded to the nearest
   pub convolve-on-grid : (s : ℕ) (p : Line) → ((i : ℕ) → p i ≤ 255) → (x : ℕ) →
       convolve mode weights s p x ≡ (2 * exactConvolve mode (numerators weights) s p x + 65536) / 131072
@@ -56,12 +60,12 @@ module _ (mode : EdgeMode) (weights : List Float) (kernel : GridKernel weights) 
       channel-exact (λ j. sample mode s p (x + j) (length weights / 2)) (weight weights) (length weights)
       (λ j _. sample-relates mode s p p (x + j) (length weights / 2) (λ a _. a ≤ 255) (omega arith) bytes)
       (grid-weights-of weights (kernel .on-grid)) (omega (arith, sum-of numerator weights, kernel .fits))
-      ∙ simp (length-map, at)
+      ∙ simp (length-map, numerator-at weights)
 
   convolve-moves : Moves Near (over-by 65536) (convolve mode weights) (exactConvolve mode (numerators weights))
   unfolding exactConvolve
   convolve-moves t s p q r x =
-      let all : sumTo (λ j. getD (numerators weights) j 0) (length (numerators weights)) ≡ sum (numerators weights) = simp (length-map, at) (sum-of numerator weights) in
+      let all = numerators-sum weights in
       settled 65536 (omega arith) (omega (arith, kernel .fits))
       (convolve-on-grid s p (λ i. omega (arith, r i .byte)) x)
       (taps-near mode t s p q r (λ j. x + j) (length (numerators weights) / 2) (λ j. getD (numerators weights) j 0) (length (numerators weights)))
