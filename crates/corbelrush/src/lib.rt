@@ -4,3 +4,4 @@ pub mod grades;
 pub mod images;
 pub mod mends;
 pub mod plates;
+pub mod wholes;

@@ -3,3 +3,4 @@ pub mod Determined
 pub mod Runs
 pub mod ImageRuns
 pub mod MendRuns
+pub mod WholeRuns

@@ -129,12 +129,17 @@ fn report_mends(input: &[u8]) {
     print_count(b"rebuild", count(input, 16));
 }
 
+fn report_words(input: &[u8]) {
+    print_count(b"whole-number blur", count(input, 17));
+}
+
 fn report(input: &[u8]) {
     report_filters(input);
     report_grades(input);
     report_plates(input);
     report_images(input);
     report_mends(input);
+    report_words(input);
     print_totals(count(input, 0));
 }
 

@@ -16,6 +16,7 @@ pub fn agrees(v: &[u64]) -> bool {
         7 => kernels::agrees(v),
         11 | 13 | 14 => vector_files::agrees(v),
         15 | 16 => vector_lists::agrees(v),
+        17 => vector_wholes::agrees(v),
         _ => false,
     }
 }

@@ -1,0 +1,2 @@
+-- What a buffer of words holds.
+pub mod Words
