@@ -21,9 +21,10 @@ pub enum Entry {
     PamWrite,
     Mend,
     Rebuild,
+    BlurWhole,
 }
 
-pub const ENTRIES: [Entry; 16] = [
+pub const ENTRIES: [Entry; 17] = [
     Entry::Blur,
     Entry::Shift,
     Entry::Shadow,
@@ -40,6 +41,7 @@ pub const ENTRIES: [Entry; 16] = [
     Entry::PamWrite,
     Entry::Mend,
     Entry::Rebuild,
+    Entry::BlurWhole,
 ];
 
 /// The entries of the first release.
@@ -57,6 +59,8 @@ pub struct Case {
     pub scratch: usize,
     pub copy: usize,
     pub weights: Vec<f32>,
+    /// Over 65536.
+    pub numerators: Vec<u32>,
     pub n: u32,
     pub edge: u32,
     pub strength: f32,
@@ -105,6 +109,7 @@ impl Case {
             scratch: length,
             copy: length,
             weights: Vec::new(),
+            numerators: Vec::new(),
             n: 0,
             edge: 0,
             strength: 1.0,
@@ -129,9 +134,19 @@ impl Case {
         Case { scratch: 0, copy: 0, ..Case::new(entry, 0, 0, picture) }
     }
 
-    /// The entries that blur with an edge rule, n and a kernel.
+    /// The entries that blur with an edge rule, n and a kernel of weights.
     pub fn blurs(&self) -> bool {
         matches!(self.entry, Entry::Blur | Entry::Shadow)
+    }
+
+    /// The same, or with a kernel of numerators.
+    pub fn convolves(&self) -> bool {
+        self.blurs() || self.entry == Entry::BlurWhole
+    }
+
+    /// How many taps a kernel of either kind has.
+    pub fn taps(&self) -> usize {
+        self.weights.len() + self.numerators.len()
     }
 
     pub fn shifts(&self) -> bool {
@@ -244,7 +259,7 @@ impl From<&mut Vec<u8>> for Part {
 
 /// Calls the entry with every buffer between guard bytes.
 pub fn run(library: &Library, case: &Case) -> Outcome {
-    let turn = case.picture.len() / 4 + case.weights.len();
+    let turn = case.picture.len() / 4 + case.taps();
     let mut picture = Lent::new(case.picture.iter().copied(), turn);
     let mut scratch = Lent::new((0..case.scratch).map(work), turn / 3);
     let mut copy = Lent::new((0..case.copy).map(work), turn / 5);
@@ -260,7 +275,8 @@ pub fn run(library: &Library, case: &Case) -> Outcome {
     };
     // SAFETY: no two buffers overlap.
     let (answer, numbers) = unsafe { call(library, &lent, parts) };
-    let same_weights = lent.weights.iter().zip(&case.weights).all(|(a, b)| a.to_bits() == b.to_bits());
+    let same_weights = lent.weights.iter().zip(&case.weights).all(|(a, b)| a.to_bits() == b.to_bits())
+        && lent.numerators == case.numerators;
     Outcome {
         answer,
         picture: picture.content(),
@@ -308,6 +324,10 @@ pub unsafe fn call(library: &Library, case: &Case, parts: Parts) -> (u32, [u64; 
         Entry::PamWrite => (library.pam_write)(p, p_len, w, h, o, o_len, &mut far, &mut long),
         Entry::Mend => (library.mend)(p, p_len, w, h, l, l_len, &mut far),
         Entry::Rebuild => (library.rebuild)(p, p_len, w, h, l, l_len),
+        Entry::BlurWhole => {
+            let (m, m_len) = (case.numerators.as_ptr(), case.numerators.len());
+            (library.blur_whole)(p, p_len, w, h, s, s_len, m, m_len, n, edge)
+        }
     };
     let numbers = match case.entry {
         Entry::Check => [wide.into(), far, 0, 0],
@@ -342,6 +362,7 @@ impl fmt::Display for Case {
             Entry::Sample => write!(f, " edge {} x {} y {}", self.edge, self.x, self.y)?,
             Entry::View => write!(f, " edge {}", self.edge)?,
             Entry::PlatePicture | Entry::PlateLabel => write!(f, " index {}", self.x as u32)?,
+            Entry::BlurWhole => write!(f, " numerators {:?} n {} edge {}", self.numerators, self.n, self.edge)?,
             Entry::PlateStart => write!(f, " version {}", self.unit)?,
             Entry::PlateAdd => write!(f, " used {} unit {} sheet {}", self.used, self.unit, self.sheet)?,
             _ => (),

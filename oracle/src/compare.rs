@@ -1,8 +1,9 @@
 //! One case examined: library, rules, mended Rust, published Rust and the models of its faults.
-use crate::case::{run, Case, Outcome};
+use crate::case::{run, Case, Entry, Outcome};
 use crate::faults::{self, Faults};
 use crate::library::{Library, RULE};
 use crate::rust;
+use crate::whole_cases;
 use filters::{Class, Scratch, CLASSES, VARIANTS};
 
 /// What may not happen, with both sides.
@@ -43,6 +44,10 @@ impl Examiner {
         let lawful = run(&RULE, case);
         agree("the rules strayed", &false, &lawful.strayed)?;
         agree(&format!("library and rules, answer {}", lawful.answer), &lawful, &run(self.library, case))?;
+        if lawful.answer == 0 && case.entry == Entry::BlurWhole {
+            agree("whole-number blur and float blur", &lawful, &run(self.library, &whole_cases::as_float(case)))?;
+            agree("least and greatest", &true, &whole_cases::between(case, &lawful))?;
+        }
         let mut seen = Seen { answer: lawful.answer, classes: Vec::new() };
         if lawful.answer == 0 && rust::has(case.entry) {
             self.beside_rust(case, &lawful, thorough)?;

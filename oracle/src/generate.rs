@@ -6,6 +6,7 @@ use crate::mend_cases;
 use crate::pam_cases;
 use crate::plate_cases;
 use crate::random::Random;
+use crate::whole_cases;
 use rule::{LARGEST_SIDE, MOST_DECIMATIONS, MOST_TAPS};
 
 pub type Take<'a> = &'a mut dyn FnMut(Case);
@@ -50,6 +51,7 @@ pub fn all(amount: Amount, take: Take) {
         pam_cases::all(&mut random, take);
         mend_cases::all(&mut random, take);
         larger_cases::all(&mut random, take);
+        whole_cases::all(&mut random, take);
     }
     for _ in 0..amount.of(30_000, 900_000) {
         take(any(&mut random));
@@ -240,6 +242,7 @@ pub fn numbers(entry: Entry) -> &'static [u32] {
         Entry::PamWrite => &[1, 2, 16, 3],
         Entry::Mend => &[1, 2, 17],
         Entry::Rebuild => &[1, 2, 18],
+        Entry::BlurWhole => &[1, 2, 3, 4, 14, 6, 9],
     }
 }
 
@@ -253,7 +256,7 @@ fn bad_sides(random: &mut Random, case: &mut Case) {
         let length = 4 * case.w as usize * case.h as usize;
         case.pixels().resize(length, 7);
     }
-    if case.blurs() {
+    if case.convolves() {
         (case.scratch, case.copy) = (case.picture.len(), case.picture.len());
     }
 }
@@ -311,6 +314,7 @@ fn spoil(random: &mut Random, case: &mut Case, number: u32) {
         1 => bad_sides(random, case),
         2 => bad_length(random, case),
         3 => short_work(random, case),
+        4 if case.entry == Entry::BlurWhole => case.numerators.resize(random.pick(&[0, MOST_TAPS + 1, 100]), 1),
         4 => case.weights.resize(random.pick(&[0, MOST_TAPS + 1, 100]), 0.01),
         5 | 11 => bad_weight(random, case),
         6 => case.n = random.pick(&[MOST_DECIMATIONS + 1, 64, u32::MAX]),
@@ -319,6 +323,7 @@ fn spoil(random: &mut Random, case: &mut Case, number: u32) {
         9 => case.edge = random.pick(&[4, 5, 255, u32::MAX]),
         10 => bad_plate(random, case),
         13 => plate_cases::spoil_room(random, case),
+        14 => whole_cases::spoil_sum(random, case),
         15 => pam_cases::spoil_file(random, case),
         16 => pam_cases::spoil_pixel(random, case),
         17 => mend_cases::spoil_room(random, case),
@@ -333,6 +338,7 @@ pub fn accepted(random: &mut Random, entry: Entry) -> Case {
         Entry::PlateStart | Entry::PlateAdd | Entry::PlateLabel => return plate_cases::accepted(random, entry),
         Entry::PamRead | Entry::PamWrite => return pam_cases::accepted(random, entry),
         Entry::Mend | Entry::Rebuild => return mend_cases::accepted(random, entry),
+        Entry::BlurWhole => return whole_cases::accepted(random),
         _ => (),
     }
     let (w, h) = (random.range(1, 6) as u32, random.range(1, 6) as u32);

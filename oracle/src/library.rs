@@ -1,6 +1,6 @@
 //! The C functions as a table, filled by the linked library or by the rules.
 use rule::mend::{self, Change};
-use rule::{blur, grading, pam, plate, plate_write, shadow, shift};
+use rule::{blur, grading, pam, plate, plate_write, shadow, shift, whole};
 use std::slice;
 
 pub struct Library {
@@ -21,6 +21,7 @@ pub struct Library {
     pub pam_write: PamWrite,
     pub mend: Mend,
     pub rebuild: Rebuild,
+    pub blur_whole: BlurWhole,
 }
 
 /// The types of the C functions, and the library's own ones where it is linked.
@@ -80,6 +81,10 @@ functions! {
     Rebuild corbelrush_rebuild(
         picture: *mut u8, picture_len: usize, w: u32, h: u32, list: *const Change, count: usize
     );
+    BlurWhole corbelrush_blur_whole(
+        picture: *mut u8, picture_len: usize, w: u32, h: u32, scratch: *mut u8, scratch_len: usize,
+        numerators: *const u32, count: usize, n: u32, edge: u32
+    );
 }
 
 /// The library under test: the linked one, else the rules.
@@ -109,6 +114,7 @@ static LINKED: Library = Library {
     pam_write: corbelrush_pam_write,
     mend: corbelrush_mend,
     rebuild: corbelrush_rebuild,
+    blur_whole: corbelrush_blur_whole,
 };
 
 pub static RULE: Library = Library {
@@ -129,6 +135,7 @@ pub static RULE: Library = Library {
     pam_write: rule_pam_write,
     mend: rule_mend,
     rebuild: rule_rebuild,
+    blur_whole: rule_blur_whole,
 };
 
 // SAFETY of all below: the caller lends each buffer for the call, with its length, and no two overlap.
@@ -348,4 +355,20 @@ unsafe extern "C" fn rule_rebuild(
     count: usize,
 ) -> u32 {
     mend::rebuild(written(picture, picture_len), w, h, read(list, count))
+}
+
+unsafe extern "C" fn rule_blur_whole(
+    picture: *mut u8,
+    picture_len: usize,
+    w: u32,
+    h: u32,
+    scratch: *mut u8,
+    scratch_len: usize,
+    numerators: *const u32,
+    count: usize,
+    n: u32,
+    edge: u32,
+) -> u32 {
+    let picture = written(picture, picture_len);
+    whole::blur_whole(picture, w, h, written(scratch, scratch_len), read(numerators, count), n, edge)
 }

@@ -20,6 +20,7 @@ mod shrink;
 mod smallest;
 mod tally;
 mod vectors;
+mod whole_cases;
 #[cfg(test)]
 mod wrong;
 

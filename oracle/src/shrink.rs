@@ -101,7 +101,24 @@ fn kernels(case: &Case) -> Vec<Case> {
         }
     }
     lists.retain(|weights| (weights.len(), cost(weights)) < (case.weights.len(), cost(&case.weights)));
-    lists.into_iter().map(|weights| Case { weights, ..case.clone() }).collect()
+    let weights = lists.into_iter().map(|weights| Case { weights, ..case.clone() });
+    weights.chain(whole_numbers(case)).collect()
+}
+
+/// Fewer numerators, and smaller ones.
+fn whole_numbers(case: &Case) -> Vec<Case> {
+    let mut lists = Vec::new();
+    for (j, numerator) in case.numerators.iter().enumerate() {
+        let mut fewer = case.numerators.clone();
+        fewer.remove(j);
+        lists.push(fewer);
+        for smaller in [0, numerator / 2].into_iter().filter(|smaller| smaller < numerator) {
+            let mut simpler = case.numerators.clone();
+            simpler[j] = smaller;
+            lists.push(simpler);
+        }
+    }
+    lists.into_iter().map(|numerators| Case { numerators, ..case.clone() }).collect()
 }
 
 /// Weights and colour components, the simplest first.

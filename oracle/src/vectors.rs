@@ -9,6 +9,7 @@ use crate::mend_cases;
 use crate::pam_cases;
 use crate::plate_cases;
 use crate::random::Random;
+use crate::whole_cases;
 
 /// Where the vectors are stored: the input of the program that replays them.
 pub const STORED: &str = concat!(env!("CARGO_MANIFEST_DIR"), "/../crates/replay/stdin");
@@ -54,7 +55,8 @@ fn write(case: &Case, outcome: &Outcome) -> String {
     line.0.extend([case.used, case.place, case.second_place]);
     line.0.extend([outcome.answer.into(), zeroed(&outcome.scratch) as u64, zeroed(&outcome.copy) as u64]);
     line.0.extend(outcome.numbers);
-    line.counted(&case.weights.iter().map(|w| bits(*w)).collect::<Vec<u32>>());
+    let weights = case.weights.iter().map(|w| bits(*w));
+    line.counted(&weights.chain(case.numerators.iter().copied()).collect::<Vec<u32>>());
     line.lent(&case.list, &outcome.list);
     line.lent(&case.picture, &outcome.picture);
     line.lent(&case.other, &outcome.other);
@@ -111,7 +113,11 @@ fn read(line: &str) -> (Case, Outcome) {
     (case.place, case.second_place) = (from.next(), from.next());
     let (answer, scratch, copy) = (from.next(), after(case.scratch, from.next()), after(case.copy, from.next()));
     let numbers = [(); 4].map(|_| from.next());
-    case.weights = from.counted().into_iter().map(f32::from_bits).collect();
+    if case.entry == Entry::BlurWhole {
+        case.numerators = from.counted();
+    } else {
+        case.weights = from.counted().into_iter().map(f32::from_bits).collect();
+    }
     let (list, picture, other);
     (case.list, list) = from.lent();
     (case.picture, picture) = from.lent();
@@ -198,6 +204,7 @@ pub fn cases() -> Vec<Case> {
     later.extend(pam_cases::stored(&mut Random::new(12)));
     later.extend(mend_cases::stored(&mut Random::new(13)));
     later.extend(larger_cases::stored(&mut Random::new(14)));
+    later.extend(whole_cases::stored(&mut Random::new(15)));
     generate::refusals(&mut Random::new(11), &ENTRIES[9..], 1, 2, &mut |case| later.push(case));
     cases.extend(later.into_iter().filter(is_short));
     cases
@@ -251,7 +258,7 @@ fn is_small(case: &Case) -> bool {
 /// The same for the entries that came later.
 fn is_short(case: &Case) -> bool {
     let numbers = 2 * (case.picture.len() + case.other.len() + case.list.len());
-    case.picture.len().max(case.other.len()) <= 512 && numbers < 900
+    [case.picture.len(), case.other.len(), case.scratch, case.copy].iter().all(|length| *length <= 512) && numbers < 900
 }
 
 /// Writes the vectors; each was compared with the Rust first.

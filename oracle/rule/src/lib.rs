@@ -11,6 +11,7 @@ pub mod refusal;
 pub mod scheme;
 pub mod shadow;
 pub mod shift;
+pub mod whole;
 
 pub const LARGEST_SIDE: u32 = 16384;
 pub const MOST_TAPS: usize = 33;

@@ -28,7 +28,8 @@ pub fn short(work: &[u8], w: u32, h: u32) -> bool {
     (work.len() as u128) < bytes(w, h)
 }
 
-pub fn taps(weights: &[f32]) -> bool {
+/// Of weights or numerators.
+pub fn taps<T>(weights: &[T]) -> bool {
     weights.is_empty() || weights.len() > MOST_TAPS
 }
 
