@@ -17,8 +17,8 @@
  * taken; no function fails in another way.
  *
  * What C cannot check, and the caller sees to:
- *   - A buffer has as many bytes (weights: floats, each aligned) as the length beside it says. One of length 0 is not
- *     touched, and its pointer may be null. A list is aligned, and has as many entries as the number beside it says.
+ *   - A buffer has as many bytes (weights: floats, numerators: numbers of 32 bits, each aligned) as the length beside it
+ *     says. One of length 0 is not touched, and its pointer may be null. A list is aligned, and has as many entries as the number beside it says.
  *   - No two buffers or numbers of one call overlap, unless the function only reads both.
  *   - The pointers through which numbers are answered are not null.
  *   - The floating-point environment is the one that a program starts with: rounding to nearest, no flushing to zero.
@@ -41,7 +41,7 @@ enum {
     CORBELRUSH_WRONG_SIDES = 1,   /* w or h is 0 or above 16384 */
     CORBELRUSH_WRONG_LENGTH = 2,  /* the picture is not exactly 4wh bytes */
     CORBELRUSH_TOO_SHORT = 3,     /* a work buffer is too short */
-    CORBELRUSH_WRONG_TAPS = 4,    /* the number of weights is 0 or above 33 */
+    CORBELRUSH_WRONG_TAPS = 4,    /* the number of weights or numerators is 0 or above 33 */
     CORBELRUSH_WRONG_WEIGHT = 5,  /* a weight is NaN, below 0 or above 1 */
     CORBELRUSH_TOO_DEEP = 6,      /* n is above 14 */
     CORBELRUSH_NOT_FINITE = 7,    /* the strength or an offset is NaN or infinite */
@@ -51,6 +51,7 @@ enum {
     CORBELRUSH_OFF_GRID = 11,     /* a weight is no multiple of 1/65536, or the weights do not sum to 1 */
     CORBELRUSH_NO_PICTURE = 12,   /* the plate has no picture of that index */
     CORBELRUSH_NO_ROOM = 13,      /* the plate would pass 64 pictures, the most bytes of its version or its buffer */
+    CORBELRUSH_WRONG_SUM = 14,    /* the numerators sum to more than 65536 */
     CORBELRUSH_NO_PAM = 15,       /* the file is no PAM file as corbelrush_pam_write writes it, or its length does not fit */
     CORBELRUSH_EXCEEDS = 16,      /* a channel exceeds its alpha */
     CORBELRUSH_LIST_FULL = 17,    /* the list has room for fewer entries than there are */
@@ -81,6 +82,20 @@ enum {
 uint32_t corbelrush_blur(uint8_t *picture, size_t picture_len, uint32_t w, uint32_t h, uint8_t *scratch,
                          size_t scratch_len, const float *weights, size_t weights_len, uint32_t n, float strength,
                          uint32_t edge);
+
+/*
+ * Blurs a picture with numerators over 65536 in place of weights, in whole numbers alone: no operation of it, or of what
+ * it calls, is in floating point. For every picture, n and edge it leaves the bytes that corbelrush_blur leaves with
+ * the weights numerator / 65536 and a strength above 0. Where the numerators sum to 65536 and the edge is not
+ * CORBELRUSH_NONE, each channel afterwards lies between the least and the greatest value that it had in the picture.
+ *
+ * Refusals: 1, 2, 3 (scratch under 4wh bytes), 4, 14, 6, 9.
+ * Done: picture is blurred, the first 4wh bytes of scratch are 0, the rest of it is as it was. The numerators are only
+ * read.
+ */
+uint32_t corbelrush_blur_whole(uint8_t *picture, size_t picture_len, uint32_t w, uint32_t h, uint8_t *scratch,
+                               size_t scratch_len, const uint32_t *numerators, size_t numerators_len, uint32_t n,
+                               uint32_t edge);
 
 /*
  * Moves a picture by dx to the right and dy down, each rounded to the nearest whole number, halves away from zero.
