@@ -5,4 +5,5 @@ pub mod Accepted
 pub mod Viewed
 pub mod Places
 pub mod Injective
+pub mod Scanned
 pub mod Determined

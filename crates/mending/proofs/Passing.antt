@@ -1,8 +1,8 @@
 -- A picture that passes the check is mended as it stands, and a mended picture passes.
 use mathlib.Core.Path.{_≡_, refl, sym, ap, _∙_}
-use mathlib.Core.Bool.{Bool, false}
+use mathlib.Core.Bool.{false}
 use mathlib.Core.List.{List, [], _∷_}
-use Prim.Native.Nat.{ℕ, zero, suc, _+_, _*_, _≤_, _<_}
+use Prim.Native.Nat.{ℕ, zero, suc, _*_, _≤_, _<_}
 use native.Mathlib.Numerals.{add-one}
 use native.Mathlib.Omega.{arith}
 use lib.ListN.{length}
@@ -10,7 +10,8 @@ use Rattle.picture.specs.Planes.{bytesOf}
 use Rattle.pixels.specs.Pixels.{pixelAt, withPixel}
 use Rattle.pixels.specs.Channels.{exceeds, exceedsAt}
 use Rattle.pixels.proofs.Painting.{Painting, begins, turn}
-use Rattle.grading.specs.Premultiplied.{none, firstFrom, scanned}
+use Rattle.grading.specs.Premultiplied.{none, scanned}
+use Rattle.grading.proofs.Scanned.{finds-none}
 use Rattle.mending.specs.Changes.{lowered, mended, howMany, changesBelow, laidEntries}
 use Rattle.mending.specs.Outcome.{mendLeft, failing, mendDone}
 use Rattle.mending.proofs.Counted.{many-none, none-many}
@@ -53,13 +54,6 @@ mended-passes w h p k l = ap exceeds (mended-pixel w h p k l) ∙ passes (pixelA
 pub none-failing : (w h : ℕ) (p : List ℕ) → failing (mended w h p) w h ≡ 0
 none-failing w h p = many-none _ (w * h) (mended-passes w h p)
 
--- a scan of places at none of which the test holds
-none-from : (test : ℕ → Bool) (k n : ℕ) → ((j : ℕ) → k ≤ j → j < k + n → test j ≡ false) → firstFrom test k n ≡ none
-unfolding firstFrom
-none-from test k zero pass = refl
-none-from test k (suc n) pass = rw (pass k (omega arith) (omega arith)) (none-from test (suc k) n (λ j l m. pass j (omega arith) (omega arith)))
-
 -- the check's scan finds nothing
 pub nothing-found : (w h : ℕ) (p : List ℕ) → scanned (mended w h p) w h ≡ none
-unfolding scanned
-nothing-found w h p = none-from (exceedsAt (mended w h p)) 0 (w * h) (λ k _ l. mended-passes w h p k (omega arith))
+nothing-found w h p = finds-none (mended w h p) w h (mended-passes w h p)

@@ -1,22 +1,19 @@
 -- Channels beside their alpha: a picture that passes the check survives outward and inward, and one that came inward passes.
 use mathlib.Core.Path.{_≡_, refl, sym, ap₂, _∙_}
-use mathlib.Core.Bool.{false}
 use mathlib.Core.List.{List}
 use Prim.Native.Nat.{ℕ, zero, suc, _+_, _*_, _/_, _%_, _≤_, _<_}
 use native.Mathlib.Omega.{arith}
 use lib.ListN.{length, getD}
 use lib.Seq.{ext-getD}
-use borrow.Author.Tests.{le-ltb}
 use Rattle.picture.specs.Planes.{bytesOf}
-use Rattle.picture.specs.declared.Pixel.{Pixel}
 use Rattle.pixels.specs.Pixels.{pixelAt}
-use Rattle.pixels.specs.Channels.{exceeds, premultiply}
+use Rattle.pixels.specs.Channels.{premultiply}
 use Rattle.pixels.proofs.Channels.{premultiply-le}
 use Rattle.pixels.proofs.Painting.{at}
 use Rattle.grading.specs.Premultiplied.{none, scanned}
 use Rattle.pam.specs.Straight.{outward, recolouredChannel, imported, exported}
 use Rattle.pam.proofs.Recolouring.{anew, length-recoloured, recoloured-at}
-use Rattle.pam.proofs.Scanned.{passes-at, finds-none, below-alpha}
+use Rattle.grading.proofs.Scanned.{passes-at, finds-none, below-alpha, fits-alpha}
 use Rattle.pam.proofs.Straight.{survives}
 
 -- every element is a byte
@@ -46,14 +43,9 @@ module _ (w h : ℕ) (picture : List ℕ) (bytes : Bytes picture) (exact : lengt
       let split : j ≡ 4 * (j / 4) + j % 4 = omega arith in
       rw split (at-back (j / 4) (j % 4) (omega (arith, long)) (omega arith)))
 
--- a pixel that no channel exceeds
-fits : (p : Pixel) → p .r ≤ p .a → p .g ≤ p .a → p .b ≤ p .a → exceeds p ≡ false
-unfolding exceeds
-fits p r g b = rw (le-ltb (p .a) (p .r) r, le-ltb (p .a) (p .g) g, le-ltb (p .a) (p .b) b)
-
 module _ (w h : ℕ) (body : List ℕ) (bytes : Bytes body) where
   pub passes-inward : scanned (imported w h body) w h ≡ none
-  passes-inward = finds-none (imported w h body) w h (λ i l. fits (pixelAt (imported w h body) i) (low i 0 l (omega arith) refl) (low i 1 l (omega arith) refl) (low i 2 l (omega arith) refl))
+  passes-inward = finds-none (imported w h body) w h (λ i l. fits-alpha (pixelAt (imported w h body) i) (low i 0 l (omega arith) refl) (low i 1 l (omega arith) refl) (low i 2 l (omega arith) refl))
     where
       low : (i c : ℕ) → i < w * h → c < 4 → anew premultiply body i c ≡ premultiply (at body i c) (at body i 3) → at (imported w h body) i c ≤ at (imported w h body) i 3
       low i c l m e =

@@ -7,7 +7,7 @@ use borrow.Author.Needs.{needs}
 use lib.ListN.{length, getD}
 use Rattle.picture.proofs.Build.{length-build, getD-build}
 use Rattle.pam.specs.Straight.{reciprocal, reciprocals}
-use Rattle.pam.proofs.Scanned.{below-alpha}
+use Rattle.grading.proofs.Scanned.{below-alpha}
 use Rattle.pam.proofs.Straight.{outward-opaque}
 use Rattle.pam.proofs.writing.straight_pixel.Statement.{statement}
 use Rattle.pam.proofs.writing.straight_pixel.Tie as tie

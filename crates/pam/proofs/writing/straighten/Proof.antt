@@ -7,7 +7,7 @@ use borrow.Author.Needs.{needs}
 use Rattle.pixels.proofs.Painting.{Painting, begins}
 use Rattle.pam.specs.Straight.{outward, recolouredPixel}
 use Rattle.pam.proofs.Recolouring.{anew, turn-anew, ends-anew}
-use Rattle.pam.proofs.Scanned.{passes-at}
+use Rattle.grading.proofs.Scanned.{passes-at}
 use Rattle.pam.proofs.writing.straighten.Statement.{statement}
 use Rattle.pam.proofs.writing.straighten.Tie as tie
 
