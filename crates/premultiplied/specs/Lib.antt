@@ -1,0 +1,3 @@
+-- What a premultiplied picture is, and that one stays one.
+pub mod Rule
+pub mod Stays

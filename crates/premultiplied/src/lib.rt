@@ -1,0 +1,1 @@
+// Premultiplied stays premultiplied: definitions and laws, no code.
