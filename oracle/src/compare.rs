@@ -2,6 +2,7 @@
 use crate::case::{run, Case, Entry, Outcome};
 use crate::faults::{self, Faults};
 use crate::library::{Library, RULE};
+use crate::premultiplied;
 use crate::rust;
 use crate::whole_cases;
 use filters::{Class, Scratch, CLASSES, VARIANTS};
@@ -19,6 +20,8 @@ pub struct Seen {
     pub answer: u32,
     /// The classes that change this case's picture, and Overflow where a coordinate overflows.
     pub classes: Vec<Class>,
+    /// What it shows of request 09's law.
+    pub premultiplied: Option<&'static str>,
 }
 
 pub struct Examiner {
@@ -48,7 +51,9 @@ impl Examiner {
             agree("whole-number blur and float blur", &lawful, &run(self.library, &whole_cases::as_float(case)))?;
             agree("least and greatest", &true, &whole_cases::between(case, &lawful))?;
         }
-        let mut seen = Seen { answer: lawful.answer, classes: Vec::new() };
+        let law = premultiplied::shown(self.library, case, &lawful.picture);
+        agree("premultiplied afterwards", &true, &law.is_ok())?;
+        let mut seen = Seen { answer: lawful.answer, classes: Vec::new(), premultiplied: law.ok().flatten() };
         if lawful.answer == 0 && rust::has(case.entry) {
             self.beside_rust(case, &lawful, thorough)?;
             seen.classes = classes(case, &lawful)?;

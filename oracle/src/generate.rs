@@ -5,6 +5,7 @@ use crate::larger_cases;
 use crate::mend_cases;
 use crate::pam_cases;
 use crate::plate_cases;
+use crate::premultiplied;
 use crate::random::Random;
 use crate::whole_cases;
 use rule::{LARGEST_SIDE, MOST_DECIMATIONS, MOST_TAPS};
@@ -46,12 +47,14 @@ pub fn all(amount: Amount, take: Take) {
     larger_cases::longest_plates(&mut random, take);
     refusals(&mut random, &ENTRIES, amount.of(8, 60), u32::MAX, take);
     samples(&mut random, take);
+    premultiplied::counterexamples().into_iter().for_each(&mut *take);
     for _ in 0..amount.of(1, 10) {
         plate_cases::all(&mut random, take);
         pam_cases::all(&mut random, take);
         mend_cases::all(&mut random, take);
         larger_cases::all(&mut random, take);
         whole_cases::all(&mut random, take);
+        premultiplied::all(&mut random, take);
     }
     for _ in 0..amount.of(30_000, 900_000) {
         take(any(&mut random));

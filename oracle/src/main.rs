@@ -14,6 +14,7 @@ mod mend_cases;
 mod pam_cases;
 mod passes;
 mod plate_cases;
+mod premultiplied;
 mod random;
 mod rust;
 mod shrink;

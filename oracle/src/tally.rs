@@ -2,6 +2,7 @@
 use crate::case::{Case, Entry, ENTRIES};
 use crate::compare::Seen;
 use crate::generate::numbers;
+use crate::premultiplied;
 use filters::{Class, CLASSES};
 use std::collections::BTreeMap;
 
@@ -53,6 +54,9 @@ impl Tally {
         for class in &seen.classes {
             self.add(format!("class {class:?}"), entry);
         }
+        if let Some(row) = seen.premultiplied {
+            self.add(row.into(), entry);
+        }
         if seen.classes.contains(&Class::Flooring) {
             self.add(flooring(case.composite != 0), entry);
         }
@@ -82,6 +86,13 @@ impl Tally {
             let refusals = if entry == Entry::Sample { &[] } else { numbers(entry) };
             let unseen = [0].iter().chain(refusals).filter(|answer| self.count(&row(**answer), entry) == 0);
             rows.extend(unseen.map(|answer| format!("{entry:?} {}", row(*answer))));
+        }
+        for (entry, row) in
+            premultiplied::KEEPING.into_iter().flat_map(|entry| premultiplied::ROWS.map(|row| (entry, row)))
+        {
+            if self.count(row, entry) == 0 {
+                rows.push(format!("{entry:?} {row}"));
+            }
         }
         rows
     }

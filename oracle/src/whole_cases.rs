@@ -38,7 +38,7 @@ fn limits() -> Vec<Vec<u32>> {
 }
 
 /// Numerators of a sum that is accepted, most times of 65536 itself.
-fn kernel(random: &mut Random, taps: usize) -> Vec<u32> {
+pub fn kernel(random: &mut Random, taps: usize) -> Vec<u32> {
     let less = random.below(65537);
     let sum = random.pick(&[65536, 65536, 65536, 65535, less]);
     inputs::numerators(random, taps, sum).iter().map(|m| *m as u32).collect()

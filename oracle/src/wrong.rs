@@ -10,6 +10,7 @@ mod limits;
 mod mends;
 mod pams;
 mod plates;
+mod premultiplied;
 mod wholes;
 
 /// What is wrong, and what the program does.
