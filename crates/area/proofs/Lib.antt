@@ -1,0 +1,10 @@
+-- Laws of area sums.
+pub mod Sums
+pub mod FourCorners
+pub mod Entries
+pub mod Rows
+pub mod Changes
+pub mod Gains
+pub mod Tables
+pub mod Conditions
+pub mod Settle

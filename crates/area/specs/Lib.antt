@@ -1,0 +1,3 @@
+-- The definitions that contracts cite of area sums.
+pub mod Area
+pub mod Outcome
