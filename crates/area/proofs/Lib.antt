@@ -8,3 +8,7 @@ pub mod Gains
 pub mod Tables
 pub mod Conditions
 pub mod Settle
+pub mod Examples
+pub mod Taken
+pub mod Determined
+pub mod Promised

@@ -1,9 +1,8 @@
 -- What a call that is lent a table alone comes to: one law for each of its checks, and one for a call that is done.
-use mathlib.Core.Path.{_≡_, refl}
+use mathlib.Core.Path.{_≡_}
 use mathlib.Core.Bool.{Bool, true, false}
 use mathlib.Core.List.{[], _∷_, _++_}
 use Prim.Native.Nat.{ℕ}
-use native.Mathlib.Omega.{arith}
 use Rattle.picture.specs.Answer.{Answer, answered, settled}
 use Rattle.picture.specs.Refusal.{check, firstElse, firstOf, wrongSides}
 use Rattle.area.specs.Outcome.{shortTable, tableChecks}

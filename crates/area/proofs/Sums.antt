@@ -45,24 +45,20 @@ sum-bound f m (suc n) e =
     let k = e n (omega arith) in
     omega (arith, suc-mul n m)
 
--- lines that agree but at k: sums that do not hold k agree, ..
-pub sum-without : (f g : Line) (k n : ℕ) → ((i : ℕ) → (i ≡ k → ⊥) → f i ≡ g i) → n ≤ k → sumTo f n ≡ sumTo g n
-sum-without f g k n e l = sum-same f g n (λ i m. e i (λ q. omega arith))
-
--- .. and those that do differ by the change
-pub sum-change : (f g : Line) (k n : ℕ) → ((i : ℕ) → (i ≡ k → ⊥) → f i ≡ g i) → k < n → sumTo f n + g k ≡ sumTo g n + f k
+-- of lines that agree but at k, sums that hold k differ by the change there
+pub sum-change : (f g : Line) (k n : ℕ) → ((i : ℕ) → i < n → (i ≡ k → ⊥) → f i ≡ g i) → k < n → sumTo f n + g k ≡ sumTo g n + f k
 unfolding sumTo
 sum-change f g k zero e l = absurd (omega arith)
-sum-change f g k (suc n) e l = last (λ m. sum-change f g k n e m) (eqb n k) refl
+sum-change f g k (suc n) e l = last (λ m. sum-change f g k n (λ i u. e i (omega arith)) m) (eqb n k) refl
   where
     last : (k < n → sumTo f n + g k ≡ sumTo g n + f k) → (b : Bool) → eqb n k ≡ b → sumTo f n + f n + g k ≡ sumTo g n + g n + f k
     last again true q =
         let m : n ≡ k = eqb-true n k q in
-        let s : sumTo f n ≡ sumTo g n = sum-without f g k n e (omega arith) in
+        let s : sumTo f n ≡ sumTo g n = sum-same f g n (λ i u. e i (omega arith) (λ z. omega arith)) in
         let a : f n ≡ f k = ap f m in
         let b : g n ≡ g k = ap g m in
         omega arith
     last again false q =
         let s : sumTo f n + g k ≡ sumTo g n + f k = again (omega (arith, eqb-false n k q)) in
-        let a : f n ≡ g n = e n (eqb-false n k q) in
+        let a : f n ≡ g n = e n (omega arith) (eqb-false n k q) in
         omega arith

@@ -1,5 +1,4 @@
 -- The four corners lie in the table, and three differences of them are the definition's.
-use mathlib.Core.Path.{refl}
 use Prim.Native.Nat.{_+_, _*_, _≤_}
 use native.Mathlib.Omega.{arith}
 use borrow.Author.Needs.{needs}

@@ -1,12 +1,11 @@
 -- The first x entries of the row are the table's, and `sum` is the row's sum so far.
-use mathlib.Core.Path.{_≡_, refl, _∙_, sym}
+use mathlib.Core.Path.{_≡_, refl, _∙_}
 use Prim.Native.Nat.{_+_, _-_, _*_, _%_, _≤_}
 use native.Mathlib.Omega.{arith}
 use borrow.Author.Needs.{needs}
 use lib.ListN.{length, length-set}
 use Rattle.picture.specs.Spans.{Run}
 use Rattle.picture.proofs.Spans.{span-none, span-more, span-ends}
-use Rattle.picture.proofs.Sizes.{room-is}
 use Rattle.area.specs.Area.{alphaPlane, top, entry}
 use Rattle.area.proofs.Entries.{row-ends, corner-same}
 use Rattle.area.proofs.Rows.{rowSum, row-none, sum-step, entry-step, alpha-at}
