@@ -4,3 +4,4 @@ pub mod Runs
 pub mod ImageRuns
 pub mod MendRuns
 pub mod WholeRuns
+pub mod AreaRuns
