@@ -18,7 +18,8 @@
  *
  * What C cannot check, and the caller sees to:
  *   - A buffer has as many bytes (weights: floats, numerators: numbers of 32 bits, each aligned) as the length beside it
- *     says. One of length 0 is not touched, and its pointer may be null. A list is aligned, and has as many entries as the number beside it says.
+ *     says. One of length 0 is not touched, and its pointer may be null. A list or a table is aligned, and has as many
+ *     entries as the number beside it says.
  *   - No two buffers or numbers of one call overlap, unless the function only reads both.
  *   - The pointers through which numbers are answered are not null.
  *   - The floating-point environment is the one that a program starts with: rounding to nearest, no flushing to zero.
@@ -40,7 +41,7 @@ enum {
     CORBELRUSH_DONE = 0,
     CORBELRUSH_WRONG_SIDES = 1,   /* w or h is 0 or above 16384 */
     CORBELRUSH_WRONG_LENGTH = 2,  /* the picture is not exactly 4wh bytes */
-    CORBELRUSH_TOO_SHORT = 3,     /* a work buffer is too short */
+    CORBELRUSH_TOO_SHORT = 3,     /* a work buffer or a table is too short */
     CORBELRUSH_WRONG_TAPS = 4,    /* the number of weights or numerators is 0 or above 33 */
     CORBELRUSH_WRONG_WEIGHT = 5,  /* a weight is NaN, below 0 or above 1 */
     CORBELRUSH_TOO_DEEP = 6,      /* n is above 14 */
@@ -55,7 +56,8 @@ enum {
     CORBELRUSH_NO_PAM = 15,       /* the file is no PAM file as corbelrush_pam_write writes it, or its length does not fit */
     CORBELRUSH_EXCEEDS = 16,      /* a channel exceeds its alpha */
     CORBELRUSH_LIST_FULL = 17,    /* the list has room for fewer entries than there are */
-    CORBELRUSH_WRONG_LIST = 18    /* a place of the list lies outside the picture, or is not above the one before it */
+    CORBELRUSH_WRONG_LIST = 18,   /* a place of the list lies outside the picture, or is not above the one before it */
+    CORBELRUSH_WRONG_BOX = 20     /* the box is empty, too large or partly outside the picture, or the place outside */
 };
 
 /* What a picture is beyond its borders. */
@@ -183,6 +185,38 @@ uint32_t corbelrush_sample(const uint8_t *picture, size_t picture_len, uint32_t 
  * The weights are only read.
  */
 uint32_t corbelrush_spread(const float *weights, size_t weights_len, uint32_t n, uint64_t *spread);
+
+/*
+ * Builds the area sums of a picture: entry y * w + x of the table is the sum of all alphas above and to the left of that
+ * pixel, itself included, modulo 2^32.
+ *
+ * Refusals: 1, 2, 3 (table under w * h entries).
+ * Done: the first w * h entries of table are the sums, the rest of it is as it was. The picture is only read.
+ */
+uint32_t corbelrush_area_build(const uint8_t *picture, size_t picture_len, uint32_t w, uint32_t h, uint32_t *table,
+                               size_t entries);
+
+/*
+ * The sum of the alphas of a box, wide columns from x on and high rows from y on, from at most four entries of the table
+ * that corbelrush_area_build made. Of any other table *sum is the same combination of entries, modulo 2^32.
+ *
+ * Refusals: 1, 3 (table under w * h entries), 20 (the box has no pixel or more than 16843009, or a part of it lies
+ * outside the picture); *sum is 0.
+ * The table is only read.
+ */
+uint32_t corbelrush_area_box(const uint32_t *table, size_t entries, uint32_t w, uint32_t h, uint32_t x, uint32_t y,
+                             uint32_t wide, uint32_t high, uint64_t *sum);
+
+/*
+ * Carries the change of one pixel's alpha into a table, by its place y * w + x: each entry at or below and right of it
+ * gains new_alpha - old_alpha, modulo 2^32, and no other changes. The table that was built before the change is then the
+ * one that would be built after it.
+ *
+ * Refusals: 1, 3 (table under w * h entries), 20 (place is w * h or above).
+ * Done: table is updated, its entries past the first w * h are as they were.
+ */
+uint32_t corbelrush_area_update(uint32_t *table, size_t entries, uint32_t w, uint32_t h, uint64_t place,
+                                uint8_t old_alpha, uint8_t new_alpha);
 
 /*
  * Where a picture of a plate file lies, by its index counted from 0: *length bytes from plate + *offset on, *w by *h

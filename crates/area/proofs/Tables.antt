@@ -1,9 +1,9 @@
 -- Laws of whole tables: what a built one says at a corner and of a box, and an update, which makes of it the one built afresh.
-use mathlib.Core.Path.{_≡_, _∙_, sym, ap}
+use mathlib.Core.Path.{_≡_, refl, _∙_, sym, ap}
 use mathlib.Core.List.{List, _++_}
 use mathlib.Core.Logic.{⊎-elim}
 use Prim.Native.Nat.{ℕ, _+_, _-_, _*_, _/_, _%_, _≤_, _<_}
-use native.Mathlib.Nat.{mod-lt, mod-eq-of-lt}
+use native.Mathlib.Nat.{mul-comm, mod-lt, mod-eq-of-lt}
 use native.Mathlib.Omega.{arith}
 use lib.ListN.{length, getD, drop, List·getD-append, length-append, length-drop}
 use lib.Seq.{ext-getD, getD-append-add, getD-drop, drop-at}
@@ -12,7 +12,7 @@ use Rattle.picture.specs.Planes.{Plane, laid}
 use Rattle.picture.specs.Spans.{Span}
 use Rattle.picture.proofs.Build.{length-build, getD-build, build-same}
 use Rattle.picture.proofs.Planes.{quotient, remainder, pixel-fits}
-use Rattle.picture.proofs.Spans.{le-or-lt, span-at}
+use Rattle.picture.proofs.Spans.{le-or-lt, span-ends, span-at}
 use Rattle.area.specs.Area.{boxSum, top, less, entry, built, corner, boxed, largestBox, gained, updated}
 use Rattle.area.proofs.Entries.{rows-le, corner-is}
 use Rattle.area.proofs.FourCorners.{box-law, box-fits}
@@ -39,10 +39,16 @@ module _ (n : ℕ) (f : ℕ → ℕ) (old : List ℕ) where
   length-laid l = simp (length-append, length-drop, length-build) (omega arith)
 
   -- what a loop over these entries leaves
-  pub span-laid : (new : List ℕ) → n ≤ length old → Span 0 old new 0 0 n f → new ≡ laid (build n f) old
+  span-laid : (new : List ℕ) → n ≤ length old → Span 0 old new 0 0 n f → new ≡ laid (build n f) old
   span-laid new l s =
       ext-getD 0 new (laid (build n f) old) (s .size ∙ sym (length-laid l))
       (λ k _. ⊎-elim (λ (m : n ≤ k). s .above k (omega arith) ∙ sym (laid-past k m)) (λ (m : k < n). span-at s k (omega arith) (omega arith) m ∙ sym (laid-below k m)) (le-or-lt n k))
+
+-- and what a loop leaves that has gone through all rows, w and h by other names
+pub rows-laid : (F : ℕ → ℕ → ℕ) (old new : List ℕ) (y : ℕ) {w h v u : ℕ} → v ≡ w → u ≡ h → y ≡ u → w * h ≤ length old →
+    Span 0 old new 0 0 (y * v) (F v) → new ≡ laid (build (h * w) (F w)) old
+rows-laid F old new y {w} {h} p q e l s =
+    span-laid (h * w) (F w) old new (omega (arith, mul-comm w h)) (span-ends (rw p at s) refl (ap (λ (k : ℕ). k * w) (e ∙ q)))
 
 module _ (w h : ℕ) (p : Plane) where
   pub built-length : (old : List ℕ) → h * w ≤ length old → length (laid (built w h p) old) ≡ length old

@@ -4,6 +4,7 @@ use Prim.Native.Nat.{_+_, _-_, _*_, _%_, _≤_}
 use native.Mathlib.Omega.{arith}
 use borrow.Author.Needs.{needs}
 use lib.ListN.{length, length-set}
+use mir.Facts.{fits-widen}
 use Rattle.picture.specs.Spans.{Run}
 use Rattle.picture.proofs.Spans.{span-none, span-more, span-ends}
 use Rattle.area.specs.Area.{alphaPlane, top, entry}
@@ -28,10 +29,7 @@ mul-at : tie.Need-mul-at Inv-loop μ-loop
 mul-at c = omega arith
 
 cast-wrapping-add-u32 : tie.Need-cast-wrapping-add-u32 Inv-loop μ-loop
-cast-wrapping-add-u32 c =
-    let turn = c .before .before in
-    let a = turn .before .before .before .args in
-    record { fits = omega (arith, c .shared-slice-known2 .given (4 * (a .y * a .w + turn .loop .x) + 3)) }
+cast-wrapping-add-u32 c = fits-widen tt (c .shared-slice-known2 .given _)
 
 corner-requires : tie.Need-corner-requires Inv-loop μ-loop
 corner-requires c κs =

@@ -1,14 +1,14 @@
 -- The first y rows of the table are the picture's, and no other entry has changed.
-use mathlib.Core.Path.{_≡_, refl, _∙_, ap}
-use Prim.Native.Nat.{ℕ, _+_, _-_, _*_, _/_, _%_, _≤_}
+use mathlib.Core.Path.{_≡_, refl, _∙_}
+use Prim.Native.Nat.{_+_, _-_, _*_, _/_, _%_, _≤_}
 use native.Mathlib.Omega.{arith}
 use borrow.Author.Needs.{needs}
 use lib.ListN.{length}
 use Rattle.picture.specs.Spans.{Span}
-use Rattle.picture.proofs.Spans.{span-none, span-join, span-ends, span-element, span-at}
+use Rattle.picture.proofs.Spans.{span-none, span-join, span-element, span-at}
 use Rattle.area.specs.Area.{alphaPlane, entry, built}
 use Rattle.area.proofs.Entries.{rows-in, row-ends, corner-is}
-use Rattle.area.proofs.Tables.{span-laid}
+use Rattle.area.proofs.Tables.{rows-laid}
 use Rattle.area.proofs.builder.build_rows.Statement.{statement}
 use Rattle.area.proofs.builder.build_rows.Tie as tie
 
@@ -66,11 +66,12 @@ returns c =
     let l = c .before .loop in
     let size = c .before .before in
     let st = size .before .before .before .before in
-    let w = size .before .width .result in
-    let h = size .height .result in
-    let all : l .y * w ≡ h * w = ap (λ (y : ℕ). y * w) (omega arith) in
-    rw (← size .before .width .ensures, ← size .height .ensures)
-    (span-laid (h * w) _ (st .args .table .now) _ (omega (arith, rows-in (size .before .width .ensures) (size .height .ensures) h (omega arith))) (span-ends (l .inv .2) refl all))
+    rows-laid (λ w k. entry (alphaPlane (st .args .picture .now) w) (k % w + 1) (k / w + 1)) (st .args .table .now) (l .table) (l .y)
+    (size .before .width .ensures)
+    (size .height .ensures)
+    (omega arith)
+    (st .pre .1)
+    (l .inv .2)
 
 pub build-rows-spec : {M : Type 1} → statement M
 build-rows-spec =

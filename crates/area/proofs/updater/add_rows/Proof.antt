@@ -1,15 +1,14 @@
 -- The rows above j have gained what they gain, and no other entry has changed.
-use mathlib.Core.Path.{_≡_, refl, _∙_, ap}
-use Prim.Native.Nat.{ℕ, _+_, _-_, _*_, _≤_, _<_}
+use mathlib.Core.Path.{_≡_, refl, _∙_}
+use Prim.Native.Nat.{_+_, _-_, _*_, _≤_, _<_}
 use native.Mathlib.Omega.{arith}
 use borrow.Author.Needs.{needs}
 use lib.ListN.{length}
 use Rattle.picture.specs.Spans.{Span}
-use Rattle.picture.proofs.Spans.{span-ends}
 use Rattle.area.specs.Area.{gained}
 use Rattle.area.proofs.Entries.{rows-in, row-ends}
 use Rattle.area.proofs.Gains.{rows-above, row-gains}
-use Rattle.area.proofs.Tables.{span-laid}
+use Rattle.area.proofs.Tables.{rows-laid}
 use Rattle.area.proofs.updater.add_rows.Statement.{statement}
 use Rattle.area.proofs.updater.add_rows.Tie as tie
 
@@ -66,11 +65,13 @@ returns c =
     let l = c .before .loop in
     let size = c .before .before in
     let st = size .before .before .before in
-    let w = size .before .width .result in
-    let h = size .height .result in
-    let all : l .j * w ≡ h * w = ap (λ (j : ℕ). j * w) (omega arith) in
-    rw (← size .before .width .ensures, ← size .height .ensures)
-    (span-laid (h * w) _ (st .args .table .now) _ (omega (arith, rows-in (size .before .width .ensures) (size .height .ensures) h (omega arith))) (span-ends (l .inv .3) refl all))
+    let a = st .args in
+    rows-laid (λ w k. gained (a .table .now) w (a .x) (a .y) (a .gain) k) (a .table .now) (l .table) (l .j)
+    (size .before .width .ensures)
+    (size .height .ensures)
+    (omega arith)
+    (st .pre .1 .0)
+    (l .inv .3)
 
 pub add-rows-spec : {M : Type 1} → statement M
 add-rows-spec =
