@@ -34,16 +34,14 @@ module _ (w : ℕ) (p q : Plane) (x y : ℕ) (same : (i j : ℕ) → i < w → (
   changed-entry a b la lx ly lp lq = omega (arith, changed a b la lx ly)
 
 -- ---- one alpha of a picture w pixels wide, by its place y·w + x
-module _ (bytes : List ℕ) (w place v : ℕ) where
-  pub alpha-there : alphaPlane bytes w (place % w) (place / w) ≡ getD bytes (4 * place + 3) 0
-  unfolding chan
-  alpha-there = ap (λ (k : ℕ). getD bytes (4 * k + 3) 0) (div-add-mod' place w)
+pub alpha-there : (bytes : List ℕ) (w place : ℕ) → alphaPlane bytes w (place % w) (place / w) ≡ getD bytes (4 * place + 3) 0
+unfolding chan
+alpha-there bytes w place = ap (λ (k : ℕ). getD bytes (4 * k + 3) 0) (div-add-mod' place w)
 
+module _ (bytes : List ℕ) (w place v : ℕ) where
   -- where it is set, ..
   pub alpha-set : 4 * place + 3 < length bytes → alphaPlane (set bytes (4 * place + 3) v) w (place % w) (place / w) ≡ v
-  unfolding chan
-  alpha-set l =
-      ap (λ (k : ℕ). getD (set bytes (4 * place + 3) v) (4 * k + 3) 0) (div-add-mod' place w) ∙ getD-set-same bytes (4 * place + 3) v 0 l
+  alpha-set l = alpha-there (set bytes (4 * place + 3) v) w place ∙ getD-set-same bytes (4 * place + 3) v 0 l
 
   -- .. and every other
   pub alpha-other : (i j : ℕ) → i < w → (i ≡ place % w → j ≡ place / w → ⊥) → alphaPlane bytes w i j ≡ alphaPlane (set bytes (4 * place + 3) v) w i j

@@ -8,7 +8,7 @@ use Rattle.binary32.specs.Taps.{sumTo}
 use Rattle.area.specs.Area.{area, boxSum, top, less, entry, largestBox}
 use Rattle.area.proofs.Sums.{sum-split, sum-add, sum-same, sum-bound}
 
-module _ (p : Plane) (x y wide high : ℕ) where
+module _ (p : Plane) (x wide : ℕ) where
   -- one row of the box's columns
   abbrev strip : Line
   strip j = sumTo (λ i. p (x + i) j) wide
@@ -27,9 +27,9 @@ pub box-law : (p : Plane) (x y wide high : ℕ) →
     less (less (entry p (x + wide) (y + high)) (entry p x (y + high))) (less (entry p (x + wide) y) (entry p x y)) ≡ boxSum p x y wide high % top
 box-law p x y wide high =
     rw (
-      less-mod _ _ _ (columns p x y wide high (y + high)),
-      less-mod _ _ _ (columns p x y wide high y),
-      less-mod _ _ _ (sum-split (strip p x y wide high) y high),
+      less-mod _ _ _ (columns p x wide (y + high)),
+      less-mod _ _ _ (columns p x wide y),
+      less-mod _ _ _ (sum-split (strip p x wide) y high),
     )
 
 -- a box of at most so many pixels, each at most 255, is below 2^32

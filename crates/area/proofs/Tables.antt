@@ -34,7 +34,7 @@ module _ (n : ℕ) (f : ℕ → ℕ) (old : List ℕ) where
       ∙ getD-drop (length (build n f)) old (k - n) 0
       ∙ ap (λ (j : ℕ). getD old j 0) (sym past)
 
-  pub length-laid : n ≤ length old → length (laid (build n f) old) ≡ length old
+  length-laid : n ≤ length old → length (laid (build n f) old) ≡ length old
   unfolding laid
   length-laid l = simp (length-append, length-drop, length-build) (omega arith)
 
@@ -68,12 +68,12 @@ module _ (w h : ℕ) (p : Plane) where
   entry-at old x y lx ly =
       laid-below (h * w) _ old (y * w + x) (pixel-fits w h x y lx ly) ∙ rw (remainder w y x lx, quotient w y x lx)
 
-  pub corner-built : (old : List ℕ) (x y : ℕ) → x ≤ w → y ≤ h → corner (laid (built w h p) old) w x y ≡ entry p x y
+  corner-built : (old : List ℕ) (x y : ℕ) → x ≤ w → y ≤ h → corner (laid (built w h p) old) w x y ≡ entry p x y
   unfolding built
   corner-built old x y lx ly = corner-is p (laid (built w h p) old) w x y lx (λ k l. laid-below (h * w) (λ i. entry p (i % w + 1) (i / w + 1)) old k (omega (arith, rows-le w y h ly)))
 
   -- a box of it, modulo 2^32, ..
-  pub box-built : (old : List ℕ) (x y wide high : ℕ) → x + wide ≤ w → y + high ≤ h → boxed (laid (built w h p) old) w x y wide high ≡ boxSum p x y wide high % top
+  box-built : (old : List ℕ) (x y wide high : ℕ) → x + wide ≤ w → y + high ≤ h → boxed (laid (built w h p) old) w x y wide high ≡ boxSum p x y wide high % top
   unfolding boxed
   box-built old x y wide high lx ly =
       rw (

@@ -51,7 +51,7 @@ module _ (p table : List ℕ) (w h place old new : ℕ) (sides : wrongSides w h 
   update-built inside is low high =
       let x = place % w in
       let y = place / w in
-      let there = alpha-there p w place new ∙ sym is in
+      let there = alpha-there p w place ∙ sym is in
       let set-to = alpha-set p w place new (omega (arith, right-length (length p) w h .0 exact)) in
       let built-before = laid (built w h (alphaPlane p w)) table in
       let room = long-table (length table) w h .0 long in
