@@ -131,6 +131,9 @@ fn report_mends(input: &[u8]) {
 
 fn report_words(input: &[u8]) {
     print_count(b"whole-number blur", count(input, 17));
+    print_count(b"area build", count(input, 18));
+    print_count(b"area box", count(input, 19));
+    print_count(b"area update", count(input, 20));
 }
 
 fn report(input: &[u8]) {

@@ -17,6 +17,7 @@ pub fn agrees(v: &[u64]) -> bool {
         11 | 13 | 14 => vector_files::agrees(v),
         15 | 16 => vector_lists::agrees(v),
         17 => vector_wholes::agrees(v),
+        18..=20 => vector_areas::agrees(v),
         _ => false,
     }
 }
