@@ -22,9 +22,12 @@ pub enum Entry {
     Mend,
     Rebuild,
     BlurWhole,
+    AreaBuild,
+    AreaBox,
+    AreaUpdate,
 }
 
-pub const ENTRIES: [Entry; 17] = [
+pub const ENTRIES: [Entry; 20] = [
     Entry::Blur,
     Entry::Shift,
     Entry::Shadow,
@@ -42,6 +45,9 @@ pub const ENTRIES: [Entry; 17] = [
     Entry::Mend,
     Entry::Rebuild,
     Entry::BlurWhole,
+    Entry::AreaBuild,
+    Entry::AreaBox,
+    Entry::AreaUpdate,
 ];
 
 /// The entries of the first release.
@@ -142,6 +148,11 @@ impl Case {
     /// The same, or with a kernel of numerators.
     pub fn convolves(&self) -> bool {
         self.blurs() || self.entry == Entry::BlurWhole
+    }
+
+    /// The entries that are lent a table of sums.
+    pub fn is_area(&self) -> bool {
+        matches!(self.entry, Entry::AreaBuild | Entry::AreaBox | Entry::AreaUpdate)
     }
 
     /// How many taps a kernel of either kind has.
@@ -299,6 +310,8 @@ pub unsafe fn call(library: &Library, case: &Case, parts: Parts) -> (u32, [u64; 
     let (Part { at: p, length: p_len }, Part { at: s, length: s_len }) = (parts.picture, parts.scratch);
     let (Part { at: c, length: c_len }, Part { at: o, length: o_len }) = (parts.copy, parts.other);
     let (l, l_len) = (parts.list.at.cast::<Change>(), parts.list.length / size_of::<Change>());
+    let (t, t_len) = (parts.list.at.cast::<u32>(), parts.list.length / size_of::<u32>());
+    let (place, size) = (case.place, [case.place as u32, case.second_place as u32]);
     let [red, green, blue, alpha] = case.colour;
     let (k, k_len) = (case.weights.as_ptr(), case.weights.len());
     let ([mut wide, mut high], [mut far, mut long], mut page) = ([UNSET as u32; 2], [UNSET; 2], UNSET as u16);
@@ -328,10 +341,13 @@ pub unsafe fn call(library: &Library, case: &Case, parts: Parts) -> (u32, [u64; 
             let (m, m_len) = (case.numerators.as_ptr(), case.numerators.len());
             (library.blur_whole)(p, p_len, w, h, s, s_len, m, m_len, n, edge)
         }
+        Entry::AreaBuild => (library.area_build)(p, p_len, w, h, t, t_len),
+        Entry::AreaBox => (library.area_box)(t, t_len, w, h, x as u32, y as u32, size[0], size[1], &mut far),
+        Entry::AreaUpdate => (library.area_update)(t, t_len, w, h, place, unit as u8, sheet as u8),
     };
     let numbers = match case.entry {
         Entry::Check => [wide.into(), far, 0, 0],
-        Entry::Spread | Entry::PlateStart | Entry::PlateAdd | Entry::Mend => [far, 0, 0, 0],
+        Entry::Spread | Entry::PlateStart | Entry::PlateAdd | Entry::Mend | Entry::AreaBox => [far, 0, 0, 0],
         Entry::PlatePicture => [wide.into(), high.into(), far, long],
         Entry::PlateLabel => [wide.into(), page.into(), 0, 0],
         Entry::PamRead => [wide.into(), high.into(), far, 0],
@@ -363,6 +379,11 @@ impl fmt::Display for Case {
             Entry::View => write!(f, " edge {}", self.edge)?,
             Entry::PlatePicture | Entry::PlateLabel => write!(f, " index {}", self.x as u32)?,
             Entry::BlurWhole => write!(f, " numerators {:?} n {} edge {}", self.numerators, self.n, self.edge)?,
+            Entry::AreaBox => {
+                let Case { x, y, place, second_place, .. } = *self;
+                write!(f, " x {} y {} wide {place} high {second_place}", x as u32, y as u32)?
+            }
+            Entry::AreaUpdate => write!(f, " place {} old {} new {}", self.place, self.unit, self.sheet)?,
             Entry::PlateStart => write!(f, " version {}", self.unit)?,
             Entry::PlateAdd => write!(f, " used {} unit {} sheet {}", self.used, self.unit, self.sheet)?,
             _ => (),

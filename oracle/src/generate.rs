@@ -1,4 +1,5 @@
 //! The cases, group by group.
+use crate::area_cases;
 use crate::case::{Case, Entry, ENTRIES};
 use crate::inputs::{self, NOT_FINITE, NO_SHARE, OFFSETS};
 use crate::larger_cases;
@@ -55,6 +56,7 @@ pub fn all(amount: Amount, take: Take) {
         larger_cases::all(&mut random, take);
         whole_cases::all(&mut random, take);
         premultiplied::all(&mut random, take);
+        area_cases::all(&mut random, take);
     }
     for _ in 0..amount.of(30_000, 900_000) {
         take(any(&mut random));
@@ -246,6 +248,8 @@ pub fn numbers(entry: Entry) -> &'static [u32] {
         Entry::Mend => &[1, 2, 17],
         Entry::Rebuild => &[1, 2, 18],
         Entry::BlurWhole => &[1, 2, 3, 4, 14, 6, 9],
+        Entry::AreaBuild => &[1, 2, 3],
+        Entry::AreaBox | Entry::AreaUpdate => &[1, 3, 20],
     }
 }
 
@@ -314,6 +318,7 @@ fn bad_plate(random: &mut Random, case: &mut Case) {
 /// Makes the condition of a refusal hold, where the rest of the case lets it.
 fn spoil(random: &mut Random, case: &mut Case, number: u32) {
     match number {
+        1 | 3 | 20 if case.is_area() => area_cases::spoil(random, case, number),
         1 => bad_sides(random, case),
         2 => bad_length(random, case),
         3 => short_work(random, case),
@@ -342,6 +347,7 @@ pub fn accepted(random: &mut Random, entry: Entry) -> Case {
         Entry::PamRead | Entry::PamWrite => return pam_cases::accepted(random, entry),
         Entry::Mend | Entry::Rebuild => return mend_cases::accepted(random, entry),
         Entry::BlurWhole => return whole_cases::accepted(random),
+        Entry::AreaBuild | Entry::AreaBox | Entry::AreaUpdate => return area_cases::accepted(random, entry),
         _ => (),
     }
     let (w, h) = (random.range(1, 6) as u32, random.range(1, 6) as u32);

@@ -1,6 +1,6 @@
 //! The C functions as a table, filled by the linked library or by the rules.
 use rule::mend::{self, Change};
-use rule::{blur, grading, pam, plate, plate_write, shadow, shift, whole};
+use rule::{area, blur, grading, pam, plate, plate_write, shadow, shift, whole};
 use std::slice;
 
 pub struct Library {
@@ -22,6 +22,9 @@ pub struct Library {
     pub mend: Mend,
     pub rebuild: Rebuild,
     pub blur_whole: BlurWhole,
+    pub area_build: AreaBuild,
+    pub area_box: AreaBox,
+    pub area_update: AreaUpdate,
 }
 
 /// The types of the C functions, and the library's own ones where it is linked.
@@ -85,6 +88,15 @@ functions! {
         picture: *mut u8, picture_len: usize, w: u32, h: u32, scratch: *mut u8, scratch_len: usize,
         numerators: *const u32, count: usize, n: u32, edge: u32
     );
+    AreaBuild corbelrush_area_build(
+        picture: *const u8, picture_len: usize, w: u32, h: u32, table: *mut u32, entries: usize
+    );
+    AreaBox corbelrush_area_box(
+        table: *const u32, entries: usize, w: u32, h: u32, x: u32, y: u32, wide: u32, high: u32, sum: *mut u64
+    );
+    AreaUpdate corbelrush_area_update(
+        table: *mut u32, entries: usize, w: u32, h: u32, place: u64, old_alpha: u8, new_alpha: u8
+    );
 }
 
 /// The library under test: the linked one, else the rules.
@@ -115,6 +127,9 @@ static LINKED: Library = Library {
     mend: corbelrush_mend,
     rebuild: corbelrush_rebuild,
     blur_whole: corbelrush_blur_whole,
+    area_build: corbelrush_area_build,
+    area_box: corbelrush_area_box,
+    area_update: corbelrush_area_update,
 };
 
 pub static RULE: Library = Library {
@@ -136,6 +151,9 @@ pub static RULE: Library = Library {
     mend: rule_mend,
     rebuild: rule_rebuild,
     blur_whole: rule_blur_whole,
+    area_build: rule_area_build,
+    area_box: rule_area_box,
+    area_update: rule_area_update,
 };
 
 // SAFETY of all below: the caller lends each buffer for the call, with its length, and no two overlap.
@@ -371,4 +389,43 @@ unsafe extern "C" fn rule_blur_whole(
 ) -> u32 {
     let picture = written(picture, picture_len);
     whole::blur_whole(picture, w, h, written(scratch, scratch_len), read(numerators, count), n, edge)
+}
+
+unsafe extern "C" fn rule_area_build(
+    picture: *const u8,
+    picture_len: usize,
+    w: u32,
+    h: u32,
+    table: *mut u32,
+    entries: usize,
+) -> u32 {
+    area::build(read(picture, picture_len), w, h, written(table, entries))
+}
+
+unsafe extern "C" fn rule_area_box(
+    table: *const u32,
+    entries: usize,
+    w: u32,
+    h: u32,
+    x: u32,
+    y: u32,
+    wide: u32,
+    high: u32,
+    sum: *mut u64,
+) -> u32 {
+    let number;
+    (number, *sum) = area::box_sum(read(table, entries), w, h, x, y, wide, high);
+    number
+}
+
+unsafe extern "C" fn rule_area_update(
+    table: *mut u32,
+    entries: usize,
+    w: u32,
+    h: u32,
+    place: u64,
+    old_alpha: u8,
+    new_alpha: u8,
+) -> u32 {
+    area::update(written(table, entries), w, h, place, old_alpha, new_alpha)
 }

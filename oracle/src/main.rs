@@ -1,4 +1,5 @@
 //! Runs the library beside the Rust. See NOTES.md.
+mod area_cases;
 mod bars;
 mod bench;
 mod case;
@@ -75,10 +76,14 @@ fn compare_passes(amount: Amount) -> bool {
     answer.is_ok()
 }
 
+fn compare_areas(amount: Amount) -> bool {
+    area_cases::compare(library::under_test(), if amount == Amount::Quick { 300 } else { 3000 })
+}
+
 fn compare_all(amount: Amount) -> bool {
     let begun = Instant::now();
     println!("library: {}; overflow checks: {}", library::under_test().name, rust::checks_overflow());
-    let good = compare_cases(amount) && compare_passes(amount);
+    let good = compare_cases(amount) && compare_passes(amount) && compare_areas(amount);
     println!("seconds {:.1}", begun.elapsed().as_secs_f64());
     good
 }
@@ -90,7 +95,7 @@ fn shown(print: impl FnOnce()) -> bool {
 }
 
 const COMMANDS: &str =
-    "quick | full | classes | vectors [FILE] | replay [FILE] | distance | attain | large [PART OF A NAME [SIDE]] | costs | bench [LARGEST SIDE]";
+    "quick | full | classes | vectors [FILE] | replay [FILE] | distance | attain | large [PART OF A NAME [SIDE]] | areas | costs | bench [LARGEST SIDE]";
 
 fn main() -> ExitCode {
     rust::quiet_attempts();
@@ -112,6 +117,7 @@ fn main() -> ExitCode {
         ["large"] => large::compare(rule::LARGEST_SIDE, ""),
         ["large", part] => large::compare(rule::LARGEST_SIDE, part),
         ["large", part, side] => large::compare(side.parse().unwrap_or(rule::LARGEST_SIDE), part),
+        ["areas"] => area_cases::large(library::under_test(), rule::LARGEST_SIDE),
         ["costs"] => shown(|| large::costs(rule::LARGEST_SIDE)),
         ["bench"] => shown(|| bench::print(rule::LARGEST_SIDE)),
         ["bench", largest] => shown(|| bench::print(largest.parse().unwrap_or(rule::LARGEST_SIDE))),

@@ -1,4 +1,5 @@
 //! Stored vectors: cases and their outcomes as decimal numbers, one case a line. NOTES.md has the format.
+use crate::area_cases;
 use crate::case::{run, work, Case, Entry, Outcome, ENTRIES, FIRST};
 use crate::compare::Examiner;
 use crate::generate;
@@ -205,6 +206,7 @@ pub fn cases() -> Vec<Case> {
     later.extend(mend_cases::stored(&mut Random::new(13)));
     later.extend(larger_cases::stored(&mut Random::new(14)));
     later.extend(whole_cases::stored(&mut Random::new(15)));
+    later.extend(area_cases::stored(&mut Random::new(17)));
     generate::refusals(&mut Random::new(11), &ENTRIES[9..], 1, 2, &mut |case| later.push(case));
     cases.extend(later.into_iter().filter(is_short));
     cases

@@ -6,6 +6,7 @@ use crate::library::RULE;
 use crate::random::Random;
 use crate::vectors;
 
+mod areas;
 mod limits;
 mod mends;
 mod pams;

@@ -1,4 +1,5 @@
 //! The rules of docs/RULES.md, written plainly: what every entry answers and does to lent bytes.
+pub mod area;
 pub mod blur;
 pub mod edges;
 pub mod exact;
