@@ -1,0 +1,4 @@
+-- Laws of points.
+pub mod Points
+pub mod Rows
+pub mod Turns
