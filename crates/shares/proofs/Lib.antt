@@ -1,0 +1,2 @@
+-- Laws of shares and of their listing.
+pub mod Accepted

@@ -1,0 +1,4 @@
+-- The definitions that contracts cite of shares and of their listing.
+pub mod Checks
+pub mod Outcome
+pub mod Needs

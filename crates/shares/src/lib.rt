@@ -1,0 +1,6 @@
+// Which points made a pixel: the share of one input in an output, and the list of all inputs that have one.
+mod axes;
+mod checks;
+pub mod single;
+
+pub use checks::ShareRefusal;
