@@ -1,2 +1,3 @@
 -- Laws of shares and of their listing.
 pub mod Accepted
+pub mod Products
