@@ -159,6 +159,32 @@ uint32_t corbelrush_mend(uint8_t *picture, size_t picture_len, uint32_t w, uint3
 uint32_t corbelrush_rebuild(uint8_t *picture, size_t picture_len, uint32_t w, uint32_t h,
                             const corbelrush_change *list, size_t count);
 
+/* A point that made a pixel: a place y * w + x, and its share, over 2^(10n+32). */
+typedef struct {
+    uint64_t place, share;
+} corbelrush_point;
+
+/*
+ * Answers the share of the input place in the output place: the exact whole-number weight, over 2^(10n+32), that the input
+ * has in the blur of a picture of w by h pixels with these numerators over 65536 (count of them), n decimations and this
+ * edge rule, with nothing rounded. Summed over all inputs, share times channel is the exact blur that the blur is within
+ * 2n + 1 of, for every picture. Places are y * w + x.
+ *
+ * Refusals: 1, 4, 9, 21 (n above 3), 22 (a place is w * h or above), 14 (the numerators sum to more than 65536); *share is 0.
+ */
+uint32_t corbelrush_share(uint32_t w, uint32_t h, const uint32_t *numerators, size_t count, uint32_t n, uint32_t edge,
+                          uint64_t out_place, uint64_t in_place, uint64_t *share);
+
+/*
+ * Lists the points that made the output place: each input whose share is not 0, once, in the order of their places, with
+ * its share as corbelrush_share answers it. *points is how many there are. Room for w * h entries is always enough.
+ *
+ * Refusals: 1, 4, 9, 21, 22, 14, 17 (room below the number of points); *points is 0, and no entry has changed.
+ * Done: the first *points entries of list are the points, the rest of it is as it was.
+ */
+uint32_t corbelrush_shares(uint32_t w, uint32_t h, const uint32_t *numerators, size_t count, uint32_t n, uint32_t edge,
+                           uint64_t out_place, corbelrush_point *list, size_t room, uint64_t *points);
+
 /*
  * The number that a view of a picture gets: 0 where corbelrush_sample reads it.
  *
