@@ -57,7 +57,9 @@ enum {
     CORBELRUSH_EXCEEDS = 16,      /* a channel exceeds its alpha */
     CORBELRUSH_LIST_FULL = 17,    /* the list has room for fewer entries than there are */
     CORBELRUSH_WRONG_LIST = 18,   /* a place of the list lies outside the picture, or is not above the one before it */
-    CORBELRUSH_WRONG_BOX = 20     /* the box is empty, too large or partly outside the picture, or the place outside */
+    CORBELRUSH_WRONG_BOX = 20,    /* the box is empty, too large or partly outside the picture, or the place outside */
+    CORBELRUSH_TOO_DEEP_TO_SHARE = 21, /* n is above 3, the most that shares are worked out for */
+    CORBELRUSH_OUTSIDE = 22       /* a place lies outside the picture */
 };
 
 /* What a picture is beyond its borders. */
