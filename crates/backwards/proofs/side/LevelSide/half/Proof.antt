@@ -8,5 +8,8 @@ use Rattle.backwards.proofs.side.LevelSide.half.Tie as tie
 add-t2 : tie.Need-add-t2
 add-t2 c = omega (arith, c .before .pre, room-is)
 
+returns : tie.Need-returns
+returns c = search needs
+
 pub half-spec : {M : Type 1} → statement M
-half-spec = tie.close (tie.spec add-t2 (λ c. search needs))
+half-spec = tie.close (tie.spec add-t2 returns)
