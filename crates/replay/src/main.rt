@@ -134,6 +134,8 @@ fn report_words(input: &[u8]) {
     print_count(b"area build", count(input, 18));
     print_count(b"area box", count(input, 19));
     print_count(b"area update", count(input, 20));
+    print_count(b"share", count(input, 27));
+    print_count(b"share list", count(input, 28));
 }
 
 fn report(input: &[u8]) {

@@ -1,0 +1,2 @@
+-- What a list of points holds.
+pub mod Points
