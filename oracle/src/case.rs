@@ -1,11 +1,13 @@
 //! A case is one call of one entry; an outcome is its answer and all lent bytes afterwards.
 use crate::library::Library;
 use rule::mend::Change;
+use rule::share::Point;
 use std::fmt;
 
+/// With the number that each has in stored vectors; 21 to 26 are those of planes and recipes.
 #[derive(Clone, Copy, Debug, PartialEq, Eq, PartialOrd, Ord)]
 pub enum Entry {
-    Blur,
+    Blur = 1,
     Shift,
     Shadow,
     Check,
@@ -25,9 +27,11 @@ pub enum Entry {
     AreaBuild,
     AreaBox,
     AreaUpdate,
+    Share = 27,
+    Shares,
 }
 
-pub const ENTRIES: [Entry; 20] = [
+pub const ENTRIES: [Entry; 22] = [
     Entry::Blur,
     Entry::Shift,
     Entry::Shadow,
@@ -48,6 +52,8 @@ pub const ENTRIES: [Entry; 20] = [
     Entry::AreaBuild,
     Entry::AreaBox,
     Entry::AreaUpdate,
+    Entry::Share,
+    Entry::Shares,
 ];
 
 /// The entries of the first release.
@@ -155,6 +161,25 @@ impl Case {
         matches!(self.entry, Entry::AreaBuild | Entry::AreaBox | Entry::AreaUpdate)
     }
 
+    /// The entries that say which points made a pixel.
+    pub fn traces(&self) -> bool {
+        matches!(self.entry, Entry::Share | Entry::Shares)
+    }
+
+    /// The entries whose kernel is numerators.
+    pub fn is_whole(&self) -> bool {
+        self.traces() || self.entry == Entry::BlurWhole
+    }
+
+    /// How many bytes a word of the lent list has.
+    fn word(&self) -> usize {
+        if self.traces() {
+            8
+        } else {
+            4
+        }
+    }
+
     /// How many taps a kernel of either kind has.
     pub fn taps(&self) -> usize {
         self.weights.len() + self.numerators.len()
@@ -199,10 +224,13 @@ impl Lent {
         Lent::aligned(content, turn, 1)
     }
 
-    /// A list of words of 32 bits: begins at a multiple of 4 bytes, which may be an odd one.
-    fn list(words: &[u64], turn: usize) -> Lent {
-        let bytes: Vec<u8> = words.iter().flat_map(|word| (*word as u32).to_ne_bytes()).collect();
-        Lent::aligned(bytes.into_iter(), turn, 4)
+    /// A list of words of 4 or 8 bytes: begins at a multiple of them, which may be an odd one.
+    fn list(words: &[u64], turn: usize, size: usize) -> Lent {
+        let bytes: Vec<u8> = match size {
+            4 => words.iter().flat_map(|word| (*word as u32).to_ne_bytes()).collect(),
+            _ => words.iter().flat_map(|word| word.to_ne_bytes()).collect(),
+        };
+        Lent::aligned(bytes.into_iter(), turn, size)
     }
 
     fn aligned(content: impl ExactSizeIterator<Item = u8>, turn: usize, to: usize) -> Lent {
@@ -228,9 +256,12 @@ impl Lent {
         self.bytes[self.from..self.from + self.length].to_vec()
     }
 
-    fn words(&self) -> Vec<u64> {
-        let word = |bytes: &[u8]| u64::from(u32::from_ne_bytes(bytes.try_into().unwrap()));
-        self.content().chunks_exact(4).map(word).collect()
+    fn words(&self, size: usize) -> Vec<u64> {
+        let word = |bytes: &[u8]| match size {
+            4 => u64::from(u32::from_ne_bytes(bytes.try_into().unwrap())),
+            _ => u64::from_ne_bytes(bytes.try_into().unwrap()),
+        };
+        self.content().chunks_exact(size).map(word).collect()
     }
 
     fn strayed(&self) -> bool {
@@ -275,7 +306,7 @@ pub fn run(library: &Library, case: &Case) -> Outcome {
     let mut scratch = Lent::new((0..case.scratch).map(work), turn / 3);
     let mut copy = Lent::new((0..case.copy).map(work), turn / 5);
     let mut other = Lent::new(case.other.iter().copied(), turn / 7);
-    let mut list = Lent::list(&case.list, turn);
+    let mut list = Lent::list(&case.list, turn, case.word());
     let lent = case.clone();
     let parts = Parts {
         picture: picture.part(),
@@ -293,7 +324,7 @@ pub fn run(library: &Library, case: &Case) -> Outcome {
         picture: picture.content(),
         scratch: scratch.content(),
         copy: copy.content(),
-        list: list.words(),
+        list: list.words(case.word()),
         other: other.content(),
         numbers,
         strayed: [picture, scratch, copy, other, list].iter().any(Lent::strayed) || !same_weights,
@@ -311,9 +342,11 @@ pub unsafe fn call(library: &Library, case: &Case, parts: Parts) -> (u32, [u64; 
     let (Part { at: c, length: c_len }, Part { at: o, length: o_len }) = (parts.copy, parts.other);
     let (l, l_len) = (parts.list.at.cast::<Change>(), parts.list.length / size_of::<Change>());
     let (t, t_len) = (parts.list.at.cast::<u32>(), parts.list.length / size_of::<u32>());
+    let (q, q_len) = (parts.list.at.cast::<Point>(), parts.list.length / size_of::<Point>());
     let (place, size) = (case.place, [case.place as u32, case.second_place as u32]);
     let [red, green, blue, alpha] = case.colour;
     let (k, k_len) = (case.weights.as_ptr(), case.weights.len());
+    let (m, m_len) = (case.numerators.as_ptr(), case.numerators.len());
     let ([mut wide, mut high], [mut far, mut long], mut page) = ([UNSET as u32; 2], [UNSET; 2], UNSET as u16);
     let answer = match case.entry {
         Entry::Blur => (library.blur)(p, p_len, w, h, s, s_len, k, k_len, n, strength, edge),
@@ -337,17 +370,17 @@ pub unsafe fn call(library: &Library, case: &Case, parts: Parts) -> (u32, [u64; 
         Entry::PamWrite => (library.pam_write)(p, p_len, w, h, o, o_len, &mut far, &mut long),
         Entry::Mend => (library.mend)(p, p_len, w, h, l, l_len, &mut far),
         Entry::Rebuild => (library.rebuild)(p, p_len, w, h, l, l_len),
-        Entry::BlurWhole => {
-            let (m, m_len) = (case.numerators.as_ptr(), case.numerators.len());
-            (library.blur_whole)(p, p_len, w, h, s, s_len, m, m_len, n, edge)
-        }
+        Entry::BlurWhole => (library.blur_whole)(p, p_len, w, h, s, s_len, m, m_len, n, edge),
         Entry::AreaBuild => (library.area_build)(p, p_len, w, h, t, t_len),
         Entry::AreaBox => (library.area_box)(t, t_len, w, h, x as u32, y as u32, size[0], size[1], &mut far),
         Entry::AreaUpdate => (library.area_update)(t, t_len, w, h, place, unit as u8, sheet as u8),
+        Entry::Share => (library.share)(w, h, m, m_len, n, edge, place, case.second_place, &mut far),
+        Entry::Shares => (library.shares)(w, h, m, m_len, n, edge, place, q, q_len, &mut far),
     };
     let numbers = match case.entry {
         Entry::Check => [wide.into(), far, 0, 0],
         Entry::Spread | Entry::PlateStart | Entry::PlateAdd | Entry::Mend | Entry::AreaBox => [far, 0, 0, 0],
+        Entry::Share | Entry::Shares => [far, 0, 0, 0],
         Entry::PlatePicture => [wide.into(), high.into(), far, long],
         Entry::PlateLabel => [wide.into(), page.into(), 0, 0],
         Entry::PamRead => [wide.into(), high.into(), far, 0],
@@ -370,6 +403,9 @@ impl fmt::Display for Case {
             list(f, "weights", &self.weights)?;
             write!(f, " n {} strength {:?} edge {}", self.n, self.strength, self.edge)?;
         }
+        if self.is_whole() {
+            write!(f, " numerators {:?} n {} edge {}", self.numerators, self.n, self.edge)?;
+        }
         if self.shifts() {
             write!(f, " dx {:?} dy {:?}", self.dx, self.dy)?;
         }
@@ -378,12 +414,13 @@ impl fmt::Display for Case {
             Entry::Sample => write!(f, " edge {} x {} y {}", self.edge, self.x, self.y)?,
             Entry::View => write!(f, " edge {}", self.edge)?,
             Entry::PlatePicture | Entry::PlateLabel => write!(f, " index {}", self.x as u32)?,
-            Entry::BlurWhole => write!(f, " numerators {:?} n {} edge {}", self.numerators, self.n, self.edge)?,
             Entry::AreaBox => {
                 let Case { x, y, place, second_place, .. } = *self;
                 write!(f, " x {} y {} wide {place} high {second_place}", x as u32, y as u32)?
             }
             Entry::AreaUpdate => write!(f, " place {} old {} new {}", self.place, self.unit, self.sheet)?,
+            Entry::Share => write!(f, " out {} in {}", self.place, self.second_place)?,
+            Entry::Shares => write!(f, " out {}", self.place)?,
             Entry::PlateStart => write!(f, " version {}", self.unit)?,
             Entry::PlateAdd => write!(f, " used {} unit {} sheet {}", self.used, self.unit, self.sheet)?,
             _ => (),

@@ -4,6 +4,7 @@ use crate::faults::{self, Faults};
 use crate::library::{Library, RULE};
 use crate::premultiplied;
 use crate::rust;
+use crate::share_cases;
 use crate::whole_cases;
 use filters::{Class, Scratch, CLASSES, VARIANTS};
 
@@ -51,6 +52,7 @@ impl Examiner {
             agree("whole-number blur and float blur", &lawful, &run(self.library, &whole_cases::as_float(case)))?;
             agree("least and greatest", &true, &whole_cases::between(case, &lawful))?;
         }
+        agree("shares of a whole", &true, &share_cases::loses_nothing(case, &lawful))?;
         let law = premultiplied::shown(self.library, case, &lawful.picture);
         agree("premultiplied afterwards", &true, &law.is_ok())?;
         let mut seen = Seen { answer: lawful.answer, classes: Vec::new(), premultiplied: law.ok().flatten() };

@@ -8,6 +8,7 @@ use crate::pam_cases;
 use crate::plate_cases;
 use crate::premultiplied;
 use crate::random::Random;
+use crate::share_cases;
 use crate::whole_cases;
 use rule::{LARGEST_SIDE, MOST_DECIMATIONS, MOST_TAPS};
 
@@ -57,6 +58,7 @@ pub fn all(amount: Amount, take: Take) {
         whole_cases::all(&mut random, take);
         premultiplied::all(&mut random, take);
         area_cases::all(&mut random, take);
+        share_cases::all(&mut random, take);
     }
     for _ in 0..amount.of(30_000, 900_000) {
         take(any(&mut random));
@@ -250,6 +252,8 @@ pub fn numbers(entry: Entry) -> &'static [u32] {
         Entry::BlurWhole => &[1, 2, 3, 4, 14, 6, 9],
         Entry::AreaBuild => &[1, 2, 3],
         Entry::AreaBox | Entry::AreaUpdate => &[1, 3, 20],
+        Entry::Share => &[1, 4, 9, 21, 22, 14],
+        Entry::Shares => &[1, 4, 9, 21, 22, 14, 17],
     }
 }
 
@@ -319,10 +323,11 @@ fn bad_plate(random: &mut Random, case: &mut Case) {
 fn spoil(random: &mut Random, case: &mut Case, number: u32) {
     match number {
         1 | 3 | 20 if case.is_area() => area_cases::spoil(random, case, number),
+        1 | 17 | 21 | 22 if case.traces() => share_cases::spoil(random, case, number),
         1 => bad_sides(random, case),
         2 => bad_length(random, case),
         3 => short_work(random, case),
-        4 if case.entry == Entry::BlurWhole => case.numerators.resize(random.pick(&[0, MOST_TAPS + 1, 100]), 1),
+        4 if case.is_whole() => case.numerators.resize(random.pick(&[0, MOST_TAPS + 1, 100]), 1),
         4 => case.weights.resize(random.pick(&[0, MOST_TAPS + 1, 100]), 0.01),
         5 | 11 => bad_weight(random, case),
         6 => case.n = random.pick(&[MOST_DECIMATIONS + 1, 64, u32::MAX]),
@@ -348,6 +353,7 @@ pub fn accepted(random: &mut Random, entry: Entry) -> Case {
         Entry::Mend | Entry::Rebuild => return mend_cases::accepted(random, entry),
         Entry::BlurWhole => return whole_cases::accepted(random),
         Entry::AreaBuild | Entry::AreaBox | Entry::AreaUpdate => return area_cases::accepted(random, entry),
+        Entry::Share | Entry::Shares => return share_cases::accepted(random, entry),
         _ => (),
     }
     let (w, h) = (random.range(1, 6) as u32, random.range(1, 6) as u32);

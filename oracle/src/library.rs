@@ -1,5 +1,6 @@
 //! The C functions as a table, filled by the linked library or by the rules.
 use rule::mend::{self, Change};
+use rule::share::{self, Point};
 use rule::{area, blur, grading, pam, plate, plate_write, shadow, shift, whole};
 use std::slice;
 
@@ -25,6 +26,8 @@ pub struct Library {
     pub area_build: AreaBuild,
     pub area_box: AreaBox,
     pub area_update: AreaUpdate,
+    pub share: Share,
+    pub shares: Shares,
 }
 
 /// The types of the C functions, and the library's own ones where it is linked.
@@ -99,6 +102,31 @@ functions! {
     );
 }
 
+/// Not yet in the linked library: there the rules stand in for these two.
+pub type Share = unsafe extern "C" fn(
+    w: u32,
+    h: u32,
+    numerators: *const u32,
+    count: usize,
+    n: u32,
+    edge: u32,
+    out_place: u64,
+    in_place: u64,
+    share: *mut u64,
+) -> u32;
+pub type Shares = unsafe extern "C" fn(
+    w: u32,
+    h: u32,
+    numerators: *const u32,
+    count: usize,
+    n: u32,
+    edge: u32,
+    out_place: u64,
+    list: *mut Point,
+    room: usize,
+    points: *mut u64,
+) -> u32;
+
 /// The library under test: the linked one, else the rules.
 pub fn under_test() -> &'static Library {
     #[cfg(linked)]
@@ -130,6 +158,8 @@ static LINKED: Library = Library {
     area_build: corbelrush_area_build,
     area_box: corbelrush_area_box,
     area_update: corbelrush_area_update,
+    share: rule_share,
+    shares: rule_shares,
 };
 
 pub static RULE: Library = Library {
@@ -154,6 +184,8 @@ pub static RULE: Library = Library {
     area_build: rule_area_build,
     area_box: rule_area_box,
     area_update: rule_area_update,
+    share: rule_share,
+    shares: rule_shares,
 };
 
 // SAFETY of all below: the caller lends each buffer for the call, with its length, and no two overlap.
@@ -428,4 +460,38 @@ unsafe extern "C" fn rule_area_update(
     new_alpha: u8,
 ) -> u32 {
     area::update(written(table, entries), w, h, place, old_alpha, new_alpha)
+}
+
+unsafe extern "C" fn rule_share(
+    w: u32,
+    h: u32,
+    numerators: *const u32,
+    count: usize,
+    n: u32,
+    edge: u32,
+    out_place: u64,
+    in_place: u64,
+    share: *mut u64,
+) -> u32 {
+    let number;
+    (number, *share) = share::Blur { w, h, numerators: read(numerators, count), n, edge }.share(out_place, in_place);
+    number
+}
+
+unsafe extern "C" fn rule_shares(
+    w: u32,
+    h: u32,
+    numerators: *const u32,
+    count: usize,
+    n: u32,
+    edge: u32,
+    out_place: u64,
+    list: *mut Point,
+    room: usize,
+    points: *mut u64,
+) -> u32 {
+    let blur = share::Blur { w, h, numerators: read(numerators, count), n, edge };
+    let number;
+    (number, *points) = blur.shares(out_place, written(list, room));
+    number
 }

@@ -18,9 +18,11 @@ mod plate_cases;
 mod premultiplied;
 mod random;
 mod rust;
+mod share_cases;
 mod shrink;
 mod smallest;
 mod tally;
+mod tracing;
 mod vectors;
 mod whole_cases;
 #[cfg(test)]
@@ -80,10 +82,14 @@ fn compare_areas(amount: Amount) -> bool {
     area_cases::compare(library::under_test(), if amount == Amount::Quick { 300 } else { 3000 })
 }
 
+fn compare_shares(amount: Amount) -> bool {
+    share_cases::compare(library::under_test(), if amount == Amount::Quick { 1000 } else { 4000 })
+}
+
 fn compare_all(amount: Amount) -> bool {
     let begun = Instant::now();
     println!("library: {}; overflow checks: {}", library::under_test().name, rust::checks_overflow());
-    let good = compare_cases(amount) && compare_passes(amount) && compare_areas(amount);
+    let good = compare_cases(amount) && compare_passes(amount) && compare_areas(amount) && compare_shares(amount);
     println!("seconds {:.1}", begun.elapsed().as_secs_f64());
     good
 }

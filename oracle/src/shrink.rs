@@ -169,6 +169,11 @@ fn later(case: &Case) -> Vec<Case> {
     simpler.push(Case { used: case.used / 2, ..case.clone() });
     simpler.push(Case { unit: case.unit / 2, ..case.clone() });
     simpler.push(Case { sheet: case.sheet / 2, ..case.clone() });
+    if case.traces() {
+        simpler.extend([(case.w / 2, case.h), (case.w, case.h / 2)].map(|(w, h)| Case { w, h, ..case.clone() }));
+        simpler.extend([case.place / 2, case.place.saturating_sub(1)].map(|place| Case { place, ..case.clone() }));
+        simpler.push(Case { second_place: case.second_place / 2, ..case.clone() });
+    }
     if case.is_plate() || case.entry == Entry::PamRead {
         let length = case.picture.len().saturating_sub(1);
         simpler.push(Case { picture: case.picture[..length].to_vec(), ..case.clone() });

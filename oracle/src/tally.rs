@@ -63,10 +63,10 @@ impl Tally {
         if !case.is_plate() && !matches!(entry, Entry::Spread | Entry::PamRead) {
             self.add(format!("size {}", band(case)), entry);
         }
-        if answer == 0 && (case.convolves() || entry == Entry::Sample) {
+        if answer == 0 && (case.convolves() || case.traces() || entry == Entry::Sample) {
             self.add(format!("mode {}", MODES[case.edge as usize % 4]), entry);
         }
-        if answer == 0 && (case.convolves() || entry == Entry::Spread) {
+        if answer == 0 && (case.convolves() || case.traces() || entry == Entry::Spread) {
             self.add(format!("n {:2}", case.n), entry);
             self.add(format!("taps {}", if case.taps().is_multiple_of(2) { "even" } else { "odd" }), entry);
         }

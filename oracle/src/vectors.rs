@@ -10,6 +10,7 @@ use crate::mend_cases;
 use crate::pam_cases;
 use crate::plate_cases;
 use crate::random::Random;
+use crate::share_cases;
 use crate::whole_cases;
 
 /// Where the vectors are stored: the input of the program that replays them.
@@ -45,9 +46,8 @@ impl Line {
 }
 
 fn write(case: &Case, outcome: &Outcome) -> String {
-    let entry = ENTRIES.iter().position(|e| *e == case.entry).expect("an entry") as u32 + 1;
     let bits = |v: f32| v.to_bits();
-    let mut head = vec![entry, case.w, case.h, case.n, case.edge];
+    let mut head = vec![case.entry as u32, case.w, case.h, case.n, case.edge];
     head.extend([case.strength, case.dx, case.dy].map(bits));
     head.extend(case.colour.map(bits));
     head.extend([case.composite, case.x as u32, case.y as u32, case.scratch as u32, case.copy as u32]);
@@ -104,7 +104,9 @@ impl Numbers<'_> {
 
 fn read(line: &str) -> (Case, Outcome) {
     let mut from = Numbers(line.split_whitespace());
-    let mut case = Case::new(ENTRIES[from.next::<usize>() - 1], from.next(), from.next(), Vec::new());
+    let number: u32 = from.next();
+    let entry = ENTRIES.into_iter().find(|entry| *entry as u32 == number).expect("an entry");
+    let mut case = Case::new(entry, from.next(), from.next(), Vec::new());
     (case.n, case.edge) = (from.next(), from.next());
     (case.strength, case.dx, case.dy) = (from.float(), from.float(), from.float());
     case.colour = [(); 4].map(|_| from.float());
@@ -114,7 +116,7 @@ fn read(line: &str) -> (Case, Outcome) {
     (case.place, case.second_place) = (from.next(), from.next());
     let (answer, scratch, copy) = (from.next(), after(case.scratch, from.next()), after(case.copy, from.next()));
     let numbers = [(); 4].map(|_| from.next());
-    if case.entry == Entry::BlurWhole {
+    if case.is_whole() {
         case.numerators = from.counted();
     } else {
         case.weights = from.counted().into_iter().map(f32::from_bits).collect();
@@ -207,6 +209,7 @@ pub fn cases() -> Vec<Case> {
     later.extend(larger_cases::stored(&mut Random::new(14)));
     later.extend(whole_cases::stored(&mut Random::new(15)));
     later.extend(area_cases::stored(&mut Random::new(17)));
+    later.extend(share_cases::stored(&mut Random::new(18)));
     generate::refusals(&mut Random::new(11), &ENTRIES[9..], 1, 2, &mut |case| later.push(case));
     cases.extend(later.into_iter().filter(is_short));
     cases

@@ -6,7 +6,7 @@ use crate::random::Random;
 use rule::{LARGEST_SIDE, MOST_DECIMATIONS, MOST_TAPS};
 
 /// Kernels at the limits of the sum: taken up to 65536, and some that 16 or 32 bits would take.
-fn limits() -> Vec<Vec<u32>> {
+pub fn limits() -> Vec<Vec<u32>> {
     let mut kernels = vec![
         vec![65536],
         vec![65535],

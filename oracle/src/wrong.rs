@@ -12,6 +12,7 @@ mod mends;
 mod pams;
 mod plates;
 mod premultiplied;
+mod shares;
 mod wholes;
 
 /// What is wrong, and what the program does.

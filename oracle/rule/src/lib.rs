@@ -11,6 +11,7 @@ pub mod plate_write;
 pub mod refusal;
 pub mod scheme;
 pub mod shadow;
+pub mod share;
 pub mod shift;
 pub mod whole;
 
