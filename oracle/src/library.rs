@@ -100,32 +100,15 @@ functions! {
     AreaUpdate corbelrush_area_update(
         table: *mut u32, entries: usize, w: u32, h: u32, place: u64, old_alpha: u8, new_alpha: u8
     );
+    Share corbelrush_share(
+        w: u32, h: u32, numerators: *const u32, count: usize, n: u32, edge: u32, out_place: u64, in_place: u64,
+        share: *mut u64
+    );
+    Shares corbelrush_shares(
+        w: u32, h: u32, numerators: *const u32, count: usize, n: u32, edge: u32, out_place: u64, list: *mut Point,
+        room: usize, points: *mut u64
+    );
 }
-
-/// Not yet in the linked library: there the rules stand in for these two.
-pub type Share = unsafe extern "C" fn(
-    w: u32,
-    h: u32,
-    numerators: *const u32,
-    count: usize,
-    n: u32,
-    edge: u32,
-    out_place: u64,
-    in_place: u64,
-    share: *mut u64,
-) -> u32;
-pub type Shares = unsafe extern "C" fn(
-    w: u32,
-    h: u32,
-    numerators: *const u32,
-    count: usize,
-    n: u32,
-    edge: u32,
-    out_place: u64,
-    list: *mut Point,
-    room: usize,
-    points: *mut u64,
-) -> u32;
 
 /// The library under test: the linked one, else the rules.
 pub fn under_test() -> &'static Library {
@@ -158,8 +141,8 @@ static LINKED: Library = Library {
     area_build: corbelrush_area_build,
     area_box: corbelrush_area_box,
     area_update: corbelrush_area_update,
-    share: rule_share,
-    shares: rule_shares,
+    share: corbelrush_share,
+    shares: corbelrush_shares,
 };
 
 pub static RULE: Library = Library {
