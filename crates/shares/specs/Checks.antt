@@ -44,6 +44,6 @@ shareNumber Outside = 22
 shareNumber WrongSum = 14
 
 -- what the checks come to; 0 where none refuses
-abbrev pub checkNumber : Checked → ℕ
-checkNumber (Refused r) = shareNumber r
-checkNumber Passed = 0
+abbrev pub checkedNumber : Checked → ℕ
+checkedNumber (Refused r) = shareNumber r
+checkedNumber Passed = 0

@@ -1,7 +1,7 @@
 // The checks that both entries share.
 ghost use mathlib.Core.Path.{_≡_};
 ghost use Rattle.picture.specs.Refusal.{firstOf};
-ghost use Rattle.shares.specs.Checks.{placeOutside, shareNumber, checkNumber, shareChecks, tooDeepToShare};
+ghost use Rattle.shares.specs.Checks.{placeOutside, shareNumber, checkedNumber, shareChecks, tooDeepToShare};
 
 // The most decimations that shares are worked out for.
 const MAX_SHARE_DEPTH: u32 = 3;
@@ -54,7 +54,7 @@ pub fn place_outside(w: u32, h: u32, place: u64) -> bool
 
 // The first of refusals 1, 4, 9, 21, 22 and 14 that fits; of whether a place lies outside.
 pub fn check_share(w: u32, h: u32, numerators: &[u32], n: u32, edge: u32, outside: bool) -> Checked
-    ensures { λ r. ⌜ checkNumber r ≡ firstOf (shareChecks w h (now (numerators .entry)) n edge outside) ⌝ }
+    ensures { λ r. ⌜ checkedNumber r ≡ firstOf (shareChecks w h (now (numerators .entry)) n edge outside) ⌝ }
 {
     if picture::wrong_sides(w, h) {
         return Checked::Refused(ShareRefusal::WrongSides);

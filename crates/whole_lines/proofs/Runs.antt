@@ -10,7 +10,7 @@ use Rattle.picture.proofs.Spans.{within, span-at, span-join}
 use Rattle.passes.specs.Passes.{Pass}
 use Rattle.passes.specs.Written.{lane, lineByte}
 use Rattle.whole_lines.specs.declared.LineRun.{LineRun}
-use Rattle.whole_lines.specs.Lines.{lanes, RunAt}
+use Rattle.whole_lines.specs.Lines.{sumLanes, RunAt}
 
 -- n lanes from byte p of a line on
 abbrev pub runFrom : ℕ → ℕ → ℕ → Bool → LineRun
@@ -25,7 +25,7 @@ module _ (len stride taps p : ℕ) (z : 0 < stride) (l : p < len * stride) where
   pub element-ends : (0 < stride - p % stride) × (p + (stride - p % stride) ≤ len * stride)
   element-ends = omega (arith, mod-lt p z, div-add-mod' p stride, within 0 stride (p / stride) len element)
 
-  pub edge-run : {n : ℕ} → n ≡ min lanes (stride - p % stride) → RunAt len stride taps p (runFrom stride p n false)
+  pub edge-run : {n : ℕ} → n ≡ min sumLanes (stride - p % stride) → RunAt len stride taps p (runFrom stride p n false)
   edge-run e =
       record {
         at = div-add-mod' p stride;
@@ -42,7 +42,7 @@ module _ (len stride taps p : ℕ) (z : 0 < stride) (l : p < len * stride) where
     inner-ends =
         (omega (arith, mod-lt p z, div-add-mod' p stride, within 0 stride (p / stride) (len - after) (omega arith)), mul-le-mul-right stride (omega arith))
 
-    pub inner-run : {n : ℕ} → taps / 2 ≤ p / stride → n ≡ min lanes ((len - after) * stride - p) → RunAt len stride taps p (runFrom stride p n true)
+    pub inner-run : {n : ℕ} → taps / 2 ≤ p / stride → n ≡ min sumLanes ((len - after) * stride - p) → RunAt len stride taps p (runFrom stride p n true)
     inner-run {n} d e =
         record {
           at = div-add-mod' p stride;

@@ -8,14 +8,14 @@ use Rattle.grid_sums.specs.Room.{Numerators, TapRun}
 use Rattle.whole_lines.specs.declared.LineRun.{LineRun}
 
 -- the most lanes of a run: the code's LANES
-abbrev pub lanes : ℕ
-lanes = 1024
+abbrev pub sumLanes : ℕ
+sumLanes = 1024
 
 -- a run at byte p of a line: it ends with the line at the latest, and each tap reads its lanes in one run
 pub record RunAt (len stride taps p : ℕ) (r : LineRun) : Type 0 where
   pub at : r .x * stride + r .from ≡ p
   pub some : 0 < r .n
-  pub few : r .n ≤ lanes
+  pub few : r .n ≤ sumLanes
   pub x-high : r .x < len
   pub ends : p + r .n ≤ len * stride
   pub tap : (j : ℕ) → j < taps → TapRun (r .inner) (r .x + j) (taps / 2) len stride (r .from) (r .n)

@@ -11,7 +11,7 @@ ghost use Rattle.passes.specs.Written.{lineByte, passed};
 ghost use Rattle.blend.specs.Parts.{Room};
 ghost use Rattle.grid_sums.specs.Sums.{wholeConvolve};
 ghost use Rattle.grid_sums.specs.Room.{Numerators};
-ghost use Rattle.whole_lines.specs.Lines.{lanes, RunAt, WholeLines};
+ghost use Rattle.whole_lines.specs.Lines.{sumLanes, RunAt, WholeLines};
 use picture::EdgeMode;
 use picture::LevelSize;
 
@@ -65,7 +65,7 @@ fn whole_line(
     numerators: &[u32],
     mode: EdgeMode,
 )
-    requires { ⌜ lanes ≤ length (now acc) ⌝ ∗ ⌜ 0 < stride ⌝ ∗ ⌜ Room (now src) (now dst) start stride len o len ⌝ ∗ ⌜ Numerators (now numerators) ⌝ }
+    requires { ⌜ sumLanes ≤ length (now acc) ⌝ ∗ ⌜ 0 < stride ⌝ ∗ ⌜ Room (now src) (now dst) start stride len o len ⌝ ∗ ⌜ Numerators (now numerators) ⌝ }
     ensures { λ _. ⌜ Run 0 (now (dst .entry)) (now (dst .exit)) o (len * stride) (lineByte (wholeConvolve mode (now (numerators .entry))) (now (src .entry)) start len stride) ⌝ }
 {
     let size = len * stride;

@@ -6,13 +6,13 @@ use lib.ListN.{length, length-replicate}
 use Rattle.picture.proofs.Spans.{within}
 use Rattle.passes.proofs.Written.{Lined, lined-none, line-ends, lined-more, lined-all}
 use Rattle.grid_sums.specs.Sums.{wholeConvolve}
-use Rattle.whole_lines.specs.Lines.{lanes}
+use Rattle.whole_lines.specs.Lines.{sumLanes}
 use Rattle.whole_lines.proofs.whole_lines.Statement.{statement}
 use Rattle.whole_lines.proofs.whole_lines.Tie as tie
 
 abbrev Inv-loop : tie.InvT-loop
 Inv-loop src dst₀ lines len stride numerators mode acc₀ size y₀ dst acc y =
-    (y ≤ lines) × (length acc ≡ lanes) × Lined (wholeConvolve mode numerators) src len len stride dst₀ dst y
+    (y ≤ lines) × (length acc ≡ sumLanes) × Lined (wholeConvolve mode numerators) src len len stride dst₀ dst y
 
 abbrev μ-loop : tie.MeasureT-loop
 μ-loop src dst₀ lines len stride numerators mode acc₀ size y₀ dst acc y = lines - y
@@ -66,7 +66,7 @@ whole-lines-spec =
     Inv-loop
     μ-loop
     mul-size
-    (λ c. (omega arith, length-replicate {A = ℕ} lanes 0, lined-none))
+    (λ c. (omega arith, length-replicate {A = ℕ} sumLanes 0, lined-none))
     (λ c. omega (arith, ends c))
     (λ c. sym (c .before .before .loop .inv .1))
     whole-line-requires

@@ -6,7 +6,7 @@ use borrow.Author.Needs.{needs}
 use lib.ListN.{length}
 use Rattle.picture.specs.Answer.{settled}
 use Rattle.picture.specs.Refusal.{firstOf}
-use Rattle.shares.specs.Checks.{placeOutside, checkNumber, shareChecks}
+use Rattle.shares.specs.Checks.{placeOutside, checkedNumber, shareChecks}
 use Rattle.shares.specs.Listing.{pointsLeft, pointsOf, fullChecks, listDone, listOutcome}
 use Rattle.shares.proofs.Accepted.{number-some, right, not-outside, asked, refused-as, first-refused, first-passed}
 use Rattle.shares.proofs.listing.list.Statement.{statement}
@@ -14,14 +14,14 @@ use Rattle.shares.proofs.listing.list.Tie as tie
 
 -- whether the place lies outside, as the checks have it
 outside : (c : tie.After-check-share) → let a = c .before .before .before .args in
-    checkNumber (c .check-share .result) ≡ firstOf (shareChecks (a .w) (a .h) (a .numerators .now) (a .n) (a .edge) (placeOutside (a .w) (a .h) (a .out-place)))
+    checkedNumber (c .check-share .result) ≡ firstOf (shareChecks (a .w) (a .h) (a .numerators .now) (a .n) (a .edge) (placeOutside (a .w) (a .h) (a .out-place)))
 outside c =
     let a = c .before .before .before .args in
     c .check-share .ensures ∙ ap (λ (b : Bool). firstOf (shareChecks (a .w) (a .h) (a .numerators .now) (a .n) (a .edge) b)) (c .before .place-outside .ensures)
 
 passed : (c : tie.After-enum-told) → let a = c .before .before .before .before .before .args in
     0 ≡ firstOf (shareChecks (a .w) (a .h) (a .numerators .now) (a .n) (a .edge) (placeOutside (a .w) (a .h) (a .out-place)))
-passed c = ap checkNumber (sym (c .enum-told .given .1)) ∙ outside (c .before .before)
+passed c = ap checkedNumber (sym (c .enum-told .given .1)) ∙ outside (c .before .before)
 
 full-size-requires : tie.Need-full-size-requires
 full-size-requires c κs =
@@ -43,7 +43,7 @@ returns c =
     let check = told .before .before in
     let a = check .before .before .before .args in
     let r = told .r .given .0 .0 in
-    let e = ap checkNumber (sym (told .r .given .1)) ∙ outside check in
+    let e = ap checkedNumber (sym (told .r .given .1)) ∙ outside check in
     let points = pointsOf (a .w) (a .h) (a .numerators .now) (a .n) (a .edge) (a .out-place) in
     refused-as r _ (pointsLeft (a .list .now) 0) (listDone points (a .list .now))
     (e ∙ sym (first-refused (shareChecks (a .w) (a .h) (a .numerators .now) (a .n) (a .edge) (placeOutside (a .w) (a .h) (a .out-place))) (fullChecks (length (a .list .now)) points) (λ z. number-some r (e ∙ z))))

@@ -8,7 +8,7 @@ use Rattle.picture.specs.Refusal.{firstOf}
 use Rattle.picture.proofs.Tests.{neither}
 use Rattle.picture.proofs.Answers.{done}
 use Rattle.share_laws.specs.Share.{shareAt}
-use Rattle.shares.specs.Checks.{placeOutside, checkNumber, shareChecks}
+use Rattle.shares.specs.Checks.{placeOutside, checkedNumber, shareChecks}
 use Rattle.shares.specs.Outcome.{shareOutcome}
 use Rattle.shares.proofs.Accepted.{inside, right, not-outside, asked, refused-as}
 use Rattle.shares.proofs.single.share.Statement.{statement}
@@ -16,14 +16,14 @@ use Rattle.shares.proofs.single.share.Tie as tie
 
 -- whether a place lies outside, as the checks have it
 outside : (c : tie.After-check-share) → let a = c .before .before .before .args in
-    checkNumber (c .check-share .result) ≡ firstOf (shareChecks (a .w) (a .h) (a .numerators .now) (a .n) (a .edge) (placeOutside (a .w) (a .h) (a .out-place) || placeOutside (a .w) (a .h) (a .in-place)))
+    checkedNumber (c .check-share .result) ≡ firstOf (shareChecks (a .w) (a .h) (a .numerators .now) (a .n) (a .edge) (placeOutside (a .w) (a .h) (a .out-place) || placeOutside (a .w) (a .h) (a .in-place)))
 outside c =
     let a = c .before .before .before .args in
     c .check-share .ensures ∙ ap (λ (b : Bool). firstOf (shareChecks (a .w) (a .h) (a .numerators .now) (a .n) (a .edge) b)) (c .before .either-outside .ensures)
 
 passed : (c : tie.After-enum-told) → let a = c .before .before .before .before .before .args in
     0 ≡ firstOf (shareChecks (a .w) (a .h) (a .numerators .now) (a .n) (a .edge) (placeOutside (a .w) (a .h) (a .out-place) || placeOutside (a .w) (a .h) (a .in-place)))
-passed c = ap checkNumber (sym (c .enum-told .given .1)) ∙ outside (c .before .before)
+passed c = ap checkedNumber (sym (c .enum-told .given .1)) ∙ outside (c .before .before)
 
 full-size-requires : tie.Need-full-size-requires
 full-size-requires c κs =
@@ -44,7 +44,7 @@ unfolding shareOutcome
 returns c =
     let told = c .before in
     let check = told .before .before in
-    refused-as (told .r .given .0 .0) _ _ _ (ap checkNumber (sym (told .r .given .1)) ∙ outside check)
+    refused-as (told .r .given .0 .0) _ _ _ (ap checkedNumber (sym (told .r .given .1)) ∙ outside check)
 
 returns-2 : tie.Need-returns-2
 unfolding shareOutcome
