@@ -12,7 +12,7 @@ use Rattle.exact_blur.specs.Demand.{Bytes}
 use Rattle.grid_sums.specs.Sums.{heavy}
 use Rattle.grid_sums.specs.Room.{Numerators}
 use Rattle.whole_blur.specs.Blurred.{wholeBlurred}
-use Rattle.profiles.specs.Same.{weightOf}
+use Rattle.profiles.specs.Same.{weightOnGrid}
 use Rattle.profiles.proofs.Weights.{have-weights, grid-inside}
 use Rattle.profiles.proofs.Same.{same-as-float}
 use Rattle.premultiplied.specs.Stays.{KeepsPremultiplied}
@@ -23,7 +23,7 @@ unfolding heavy
 whole-keeps mode ms kernel n w h =
     let fits = ltb-false 65536 (sum ms) (kernel .light) in
     let those = have-weights ms fits in
-    let weights : List Float = map weightOf ms in
-    let keeps = blurred-keeps mode weights (record { counted = rw (length-map ms weightOf) (kernel .counted); inUnit = grid-inside weights (those .on-grid) }) n w h in
+    let weights : List Float = map weightOnGrid ms in
+    let keeps = blurred-keeps mode weights (record { counted = rw (length-map ms weightOnGrid) (kernel .counted); inUnit = grid-inside weights (those .on-grid) }) n w h in
     let same : (p : List ℕ) → Bytes p → wholeBlurred mode ms n w h p ≡ blurred mode weights n w h p = λ p b. same-as-float ms weights those fits mode n w h p b in
     record { bytes = λ p b. rw (same p b) (keeps .bytes p b); premultiplied = λ p b pre. rw (same p b) (keeps .premultiplied p b pre) }

@@ -18,7 +18,7 @@ use Rattle.exact_blur.specs.Demand.{GridKernel, stepsOf, Within}
 use Rattle.exact_blur.proofs.Near.{convolve-on-grid, near-exact}
 use Rattle.grid_sums.specs.Sums.{gridSum, wholeConvolve}
 use Rattle.whole_blur.specs.Blurred.{wholeBlurred}
-use Rattle.profiles.specs.Same.{gridWeight, SameAsFloat, WholeNearExact}
+use Rattle.profiles.specs.Same.{weightOnGrid, SameAsFloat, WholeNearExact}
 use Rattle.profiles.proofs.Weights.{have-weights}
 
 -- one byte and the same
@@ -51,6 +51,6 @@ same-as-float ms weights those fits mode n w h p bytes =
 pub whole-near-exact : WholeNearExact
 whole-near-exact ms fits mode n w h p bytes c x y lc lx ly =
     let those = have-weights ms fits in
-    let near = near-exact mode (map gridWeight ms) (record { on-grid = those .on-grid; fits = rw (those .are) fits }) n w h p bytes c x y lc lx ly in
-    rw (same-as-float ms (map gridWeight ms) those fits mode n w h p bytes)
-    (subst (λ (k : List ℕ). Within (stepsOf n) n (chan (blurred mode (map gridWeight ms) n w h p) w c x y) (exactBlur mode k n w h (chan p w c) x y)) (those .are) near)
+    let near = near-exact mode (map weightOnGrid ms) (record { on-grid = those .on-grid; fits = rw (those .are) fits }) n w h p bytes c x y lc lx ly in
+    rw (same-as-float ms (map weightOnGrid ms) those fits mode n w h p bytes)
+    (subst (λ (k : List ℕ). Within (stepsOf n) n (chan (blurred mode (map weightOnGrid ms) n w h p) w c x y) (exactBlur mode k n w h (chan p w c) x y)) (those .are) near)

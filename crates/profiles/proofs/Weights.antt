@@ -15,10 +15,10 @@ use Rattle.binary32.proofs.Grid.{grid-of}
 use Rattle.binary32.proofs.Conditions.{none-passes}
 use Rattle.binary32.proofs.Kernels.{weight, grid-weights, grid-weights-of}
 use Rattle.exact_blur.proofs.Near.{numerators-sum}
-use Rattle.profiles.specs.Same.{gridWeight, HaveWeights}
+use Rattle.profiles.specs.Same.{weightOnGrid, HaveWeights}
 
-weight-on : (m : ℕ) → m ≤ 65536 → (onGrid (gridWeight m) ≡ true) × (numerator (gridWeight m) ≡ m)
-weight-on m l = grid-of (gridWeight m) m l (value→is (gridWeight m) m 65536 (grid-exact m (omega arith)))
+weight-on : (m : ℕ) → m ≤ 65536 → (onGrid (weightOnGrid m) ≡ true) × (numerator (weightOnGrid m) ≡ m)
+weight-on m l = grid-of (weightOnGrid m) m l (value→is (weightOnGrid m) m 65536 (grid-exact m (omega arith)))
 
 pub have-weights : HaveWeights
 unfolding allOnGrid anyOf sum
@@ -35,4 +35,4 @@ grid-inside ws e = none-passes outsideUnit ws .1 (grid-weights (weight ws) (leng
 
 -- the sum of numerators by their index, as that of the weights that they are
 pub sum-is : (ms : List ℕ) → sum ms ≤ 65536 → sumTo (λ j. getD ms j 0) (length ms) ≡ sum ms
-sum-is ms fits = subst (λ (k : List ℕ). sumTo (λ j. getD k j 0) (length k) ≡ sum k) (have-weights ms fits .are) (numerators-sum (map gridWeight ms))
+sum-is ms fits = subst (λ (k : List ℕ). sumTo (λ j. getD k j 0) (length k) ≡ sum k) (have-weights ms fits .are) (numerators-sum (map weightOnGrid ms))

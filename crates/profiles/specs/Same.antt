@@ -21,12 +21,12 @@ pub record WeightsOf (ms : List ℕ) (weights : List Float) : Type 0 where
   pub are : numerators weights ≡ ms
 
 -- m / 65536 in binary32
-abbrev pub gridWeight : ℕ → Float
-gridWeight m = round binary32 false m 65536
+abbrev pub weightOnGrid : ℕ → Float
+weightOnGrid m = round binary32 false m 65536
 
 -- there are such weights
 abbrev pub HaveWeights : Type 0
-HaveWeights = (ms : List ℕ) → sum ms ≤ 65536 → WeightsOf ms (map gridWeight ms)
+HaveWeights = (ms : List ℕ) → sum ms ≤ 65536 → WeightsOf ms (map weightOnGrid ms)
 
 -- the same bytes, of every picture, edge mode and n
 abbrev pub SameAsFloat : Type 0
