@@ -5,3 +5,4 @@ pub mod ImageRuns
 pub mod MendRuns
 pub mod WholeRuns
 pub mod AreaRuns
+pub mod ShareRuns
