@@ -1,0 +1,8 @@
+-- Laws of planes as bytes: there and back, the same operation in both forms, and what the entries leave.
+pub mod Planar
+pub mod Filled
+pub mod Once
+pub mod Entry
+pub mod Returned
+pub mod Determined
+pub mod Examples

@@ -1,0 +1,3 @@
+-- A picture as four planes, and what converting it answers.
+pub mod Planar
+pub mod Outcome
