@@ -101,7 +101,7 @@ fn wrong_colour(recipe: Recipe) -> bool
 }
 
 // The first of refusals 1 to 9 that fits, 0 where none does; of the buffers' lengths.
-fn shadow_refusal(
+pub fn shadow_refusal(
     picture: usize,
     w: u32,
     h: u32,

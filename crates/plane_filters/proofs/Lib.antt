@@ -1,0 +1,2 @@
+-- Laws of the filters on four planes.
+pub mod Worked

@@ -1,0 +1,35 @@
+-- Each number is answered where its check refuses and none before it does.
+use mathlib.Core.Path.{ap}
+use mathlib.Core.Bool.{not}
+use borrow.Author.Needs.{needs}
+use Rattle.picture.proofs.Passed.{in-front, in-front-of, none}
+use Rattle.plane_filters.proofs.blur_planes_refusal.Statement.{statement}
+use Rattle.plane_filters.proofs.blur_planes_refusal.Tie as tie
+
+returns : tie.Need-returns
+returns c =
+    let kernel = c .before .before in
+    let six = kernel .before in
+    let tests = six .before .before .before in
+    in-front-of _ _ (c .picture-refusal .ensures)
+    (in-front _ _ (c .before .first4 .ensures) (tests .before .before .before .too-short .ensures)
+    (in-front-of _ _ (kernel .kernel-refusal .ensures)
+    (in-front _ _ (six .first3 .ensures) (six .before .before .too-deep .ensures)
+    (in-front _ _ (six .before .first2 .ensures) (ap not (tests .before .before .is-finite .ensures))
+    (in-front _ _ (tests .first .ensures) (tests .before .wrong-edge .ensures) none)))))
+
+pub blur-planes-refusal-spec : {M : Type 1} → statement M
+blur-planes-refusal-spec =
+    tie.close
+    (tie.spec
+    (λ c κs. search needs)
+    (λ c κs. search needs)
+    (λ c κs. search needs)
+    (λ c κs. search needs)
+    (λ c κs. search needs)
+    (λ c κs. search needs)
+    (λ c κs. search needs)
+    (λ c κs. search needs)
+    (λ c κs. search needs)
+    (λ c κs. search needs)
+    returns)

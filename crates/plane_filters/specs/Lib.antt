@@ -1,0 +1,2 @@
+-- What the filters on four planes answer.
+pub mod Outcome
