@@ -1,2 +1,3 @@
--- What the filters on four planes answer.
+-- What the filters on four planes do and answer.
+pub mod Shifted
 pub mod Outcome

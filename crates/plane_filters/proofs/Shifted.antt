@@ -1,0 +1,133 @@
+-- Four planes moved one after the other are the picture moved, in planes.
+use mathlib.Core.Path.{_≡_, _∙_, refl, sym, ap}
+use mathlib.Core.Bool.{Bool, true, false}
+use mathlib.Core.List.{List}
+use Prim.Native.Nat.{ℕ, _+_, _-_, _*_, _≤_, _<_}
+use native.Mathlib.Omega.{arith}
+use native.Mathlib.Nat.{mul-comm, mul-le-mul-right, add-mul, one-mul}
+use lib.Dec.{ltb}
+use lib.ListN.{length, getD, take, drop, length-take, length-drop}
+use borrow.Author.Tests.{ltb-true, ltb-false}
+use borrow.Rule.Slice.PartMut.{midOf, putMid, same-len-mid}
+use Rattle.picture.specs.Planes.{Plane, bytesOf, chan}
+use Rattle.picture.specs.Buffers.{lineOf}
+use Rattle.picture.proofs.Build.{getD-build}
+use Rattle.picture.proofs.Planes.{quotient, remainder, pixel-fits}
+use Rattle.picture.proofs.Spans.{within}
+use Rattle.binary32.specs.declared.Offset.{Offset}
+use Rattle.binary32.proofs.Offsets.{held}
+use Rattle.planes.specs.Planar.{planeOf, planar, interleaved, onPlanes}
+use Rattle.planes.proofs.Planar.{planes-ext}
+use Rattle.planes.proofs.Filled.{read}
+use Rattle.planes.proofs.Once.{on-planes}
+use Rattle.shift.specs.Shift.{shifted, shiftedPicture}
+use Rattle.shift.specs.Bytes.{planeShifted, OneWay}
+use Rattle.shift.proofs.Moved.{moved-ext}
+use Rattle.shift.proofs.Rounded.{held-picture}
+use Rattle.plane_filters.specs.Shifted.{planesShifted}
+use Rattle.plane_filters.proofs.Lent.{put-before, put-inside, put-after, mid-at}
+
+module _ (dx dy : Offset) (w h : ℕ) where
+  -- a plane that is moved looks only inside
+  shifted-local : (P Q : Plane) → ((x y : ℕ) → x < w → y < h → P x y ≡ Q x y) → (x y : ℕ) → shifted dx dy w h P x y ≡ shifted dx dy w h Q x y
+  unfolding shifted
+  shifted-local P Q e x y = moved-ext dx w _ _ x (λ i li. moved-ext dy h (P i) (Q i) y (λ j lj. e i j li lj))
+
+  -- one plane's bytes, moved
+  plane-at : (bytes : List ℕ) (x y : ℕ) → x < w → y < h → getD (planeShifted dx dy w h bytes) (y * w + x) 0 ≡ shifted dx dy w h (λ i j. lineOf bytes (j * w + i)) x y
+  unfolding planeShifted
+  plane-at bytes x y lx ly = rw (getD-build (h * w) _ (y * w + x) (pixel-fits w h x y lx ly), remainder w y x lx, quotient w y x lx)
+
+  -- the planes below c are moved, and the others are as they were
+  pub record BelowMoved (old new : List ℕ) (c : ℕ) : Type 0 where
+    pub size : length new ≡ length old
+    pub below : (d x y : ℕ) → d < c → x < w → y < h → planeOf new w h d x y ≡ shifted dx dy w h (planeOf old w h d) x y
+    pub above : (d x y : ℕ) → c ≤ d → d < 4 → x < w → y < h → planeOf new w h d x y ≡ planeOf old w h d x y
+
+  pub none-moved : (old : List ℕ) → BelowMoved old old 0
+  none-moved old = record { size = refl; below = λ d x y l. absurd (omega arith); above = λ d x y _ _ _ _. refl }
+
+  module _ (old new part : List ℕ) (c n : ℕ) (is : n ≡ h * w) (whole : length old ≡ 4 * (h * w)) (lc : c < 4) (so : BelowMoved old new c)
+      (kept : length part ≡ length (midOf (c * n) (c * n + n - c * n) new)) (made : part ≡ planeShifted dx dy w h (midOf (c * n) (c * n + n - c * n) new)) where
+    -- the part is plane c, and lies inside
+    abbrev k : ℕ
+    k = c * n + n - c * n
+
+    abbrev after : List ℕ
+    after = putMid (c * n) k new part
+
+    start : c * n ≡ c * (h * w)
+    start = ap (λ (m : ℕ). c * m) is
+
+    fits : c * n + k ≤ length new
+    fits = omega (arith, within 0 n c 4 lc, so .size, whole, is)
+
+    long : length part ≡ k
+    long = kept ∙ simp (length-take, length-drop) (omega (arith, fits))
+
+    earlier : (d x y : ℕ) → d < c → x < w → y < h → planeOf after w h d x y ≡ planeOf new w h d x y
+    unfolding planeOf
+    earlier d x y l lx ly = put-before (c * n) k new part fits long (d * (h * w) + (y * w + x)) (omega (arith, within 0 (h * w) d c l, pixel-fits w h x y lx ly, start))
+
+    here : (x y : ℕ) → x < w → y < h → planeOf after w h c x y ≡ shifted dx dy w h (planeOf old w h c) x y
+    unfolding planeOf
+    here x y lx ly =
+        let inside : y * w + x < k = omega (arith, pixel-fits w h x y lx ly, is) in
+        read after {j = c * (h * w) + (y * w + x)} {k = c * n + (y * w + x)} (omega (arith, start))
+        ∙ put-inside (c * n) k new part fits long (y * w + x) inside
+        ∙ read-of made (y * w + x)
+        ∙ plane-at (midOf (c * n) k new) x y lx ly
+        ∙ shifted-local _ _
+        (λ i j li lj.
+        let inner : j * w + i < k = omega (arith, pixel-fits w h i j li lj, is) in
+        mid-at (c * n) k new part fits long (j * w + i) inner
+        ∙ read new {j = c * n + (j * w + i)} {k = c * (h * w) + (j * w + i)} (omega (arith, start))
+        ∙ so .above c i j (omega arith) lc li lj)
+        x y
+      where
+        read-of : {l m : List ℕ} → l ≡ m → (i : ℕ) → getD l i 0 ≡ getD m i 0
+        read-of e i = ap (λ (l : List ℕ). getD l i 0) e
+
+    later : (d x y : ℕ) → c < d → d < 4 → x < w → y < h → planeOf after w h d x y ≡ planeOf new w h d x y
+    unfolding planeOf
+    later d x y l ld lx ly =
+        let i = d * (h * w) + (y * w + x) in
+        let j = i - (c * n + k) in
+        let at : i ≡ c * n + (k + j) = omega (arith, within 0 (h * w) c d l, start, is) in
+        read after {j = i} {k = c * n + (k + j)} at ∙ put-after (c * n) k new part fits long j ∙ read new {j = c * n + (k + j)} {k = i} (sym at)
+
+    -- one plane more
+    pub plane-more : BelowMoved old after (c + 1)
+    plane-more =
+        record {
+          size = same-len-mid (c * n) k new part kept ∙ so .size;
+          below = λ d x y ld lx ly. by-below d x y ld lx ly (ltb d c) refl;
+          above = λ d x y lo ld lx ly. later d x y (omega arith) ld lx ly ∙ so .above d x y (omega arith) ld lx ly;
+        }
+      where
+        by-below : (d x y : ℕ) → d < c + 1 → x < w → y < h → (b : Bool) → ltb d c ≡ b → planeOf after w h d x y ≡ shifted dx dy w h (planeOf old w h d) x y
+        by-below d x y ld lx ly true t = let l = ltb-true d c t in earlier d x y l lx ly ∙ so .below d x y l lx ly
+        by-below d x y ld lx ly false t = let m = ltb-false d c t in let e : d ≡ c = omega arith in rw e (here x y lx ly)
+
+  -- all four are moved
+  pub all-moved : (old new : List ℕ) → length old ≡ 4 * (h * w) → BelowMoved old new 4 → new ≡ planesShifted dx dy w h old
+  unfolding planesShifted
+  all-moved old new whole so =
+      planes-ext w h _ new (so .size ∙ whole ∙ ap (λ (k : ℕ). 4 * k) (mul-comm h w)) (λ c x y lc lx ly. so .below c x y lc lx ly)
+
+  -- planes moved are the picture moved
+  pub shifted-planes : (planes : List ℕ) → planesShifted dx dy w h planes ≡ onPlanes w h (shiftedPicture dx dy w h) planes
+  unfolding planesShifted shiftedPicture
+  shifted-planes planes =
+      sym (on-planes w h (λ F c. shifted dx dy w h (F c)) (λ F G e c x y lc lx ly. shifted-local (F c) (G c) (λ i j li lj. e c i j lc li lj) x y) (shiftedPicture dx dy w h) (λ p. refl) planes)
+
+-- the sides and offsets that the code works out: v by u pixels, and offsets held to the sides
+module _ (v u w h : ℕ) (v-is : v ≡ w) (u-is : u ≡ h) (planes : List ℕ) where
+  pub planes-length : length planes ≡ bytesOf w h → length planes ≡ 4 * (u * v)
+  planes-length e = rw (v-is, u-is) (e ∙ ap (λ (k : ℕ). 4 * k) (mul-comm w h))
+
+  pub planes-moved : (across down dx dy : Offset) → across ≡ held w dx → down ≡ held h dy → OneWay dx → OneWay dy →
+      planesShifted across down v u planes ≡ onPlanes w h (shiftedPicture dx dy w h) planes
+  unfolding onPlanes
+  planes-moved across down dx dy e f o p =
+      rw (v-is, u-is, e, f) (shifted-planes (held w dx) (held h dy) w h planes ∙ ap (planar w h) (held-picture dx dy w h (interleaved w h planes) o p))
