@@ -1,4 +1,4 @@
--- Laws of the filters on four planes.
+-- Laws of the blur and the shadow on four planes.
 pub mod Worked
-pub mod Lent
-pub mod Shifted
+pub mod Same
+pub mod Determined

@@ -1,3 +1,2 @@
--- What the filters on four planes do and answer.
-pub mod Shifted
+-- What the blur and the shadow on four planes answer.
 pub mod Outcome

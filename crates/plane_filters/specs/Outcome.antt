@@ -8,11 +8,8 @@ use Rattle.picture.specs.Planes.{bytesOf, cleared}
 use Rattle.picture.specs.Modes.{modeOf}
 use Rattle.picture.specs.Refusal.{firstOf}
 use Rattle.picture.specs.Answer.{Answer, Lent, lent, LentCopy, lentCopy, settled}
-use Rattle.binary32.specs.Round.{wholeOffset}
 use Rattle.planes.specs.Planar.{onPlanes}
 use Rattle.gaussian_blur.specs.Outcome.{blurChecks, blurredOrKept}
-use Rattle.shift.specs.Shift.{shiftedPicture}
-use Rattle.shift.specs.Outcome.{shiftChecks}
 use Rattle.drop_shadow.specs.Shadowed.{shadowed}
 use Rattle.drop_shadow.specs.Outcome.{shadowChecks}
 use Rattle.drop_shadow.specs.declared.Recipe.{Recipe}
@@ -23,11 +20,6 @@ blurPlanesOutcome p w h s weights n strength edge =
     settled (firstOf (blurChecks (length p) w h (length s) weights n strength edge))
     (lent p s)
     (lent (onPlanes w h (blurredOrKept (modeOf edge) weights n strength w h) p) (cleared (bytesOf w h) s))
-
--- Shift on planes: the refusals of Shift; or the planes moved
-unfoldable pub shiftPlanesOutcome : List ℕ → ℕ → ℕ → Float → Float → Answer (List ℕ)
-shiftPlanesOutcome p w h dx dy =
-    settled (firstOf (shiftChecks (length p) w h dx dy)) p (onPlanes w h (shiftedPicture (wholeOffset dx) (wholeOffset dy) w h) p)
 
 -- Shadow on planes: the refusals of Shadow; or the planes with their shadow, and both work buffers zero where they were used
 unfoldable pub shadowPlanesOutcome : List ℕ → ℕ → ℕ → List ℕ → List ℕ → List Float → ℕ → ℕ → Recipe → Bool → Answer LentCopy

@@ -1,11 +1,8 @@
-// The blur, the shift and the shadow on four planes, with the refusals of those on a picture.
-use binary32::Offset;
+// The blur and the shadow on four planes, with the refusals of those on a picture.
 use drop_shadow::Recipe;
 use picture::EdgeMode;
 use picture::FullSize;
-use shift::ByteOffset;
 ghost use mathlib.Core.Path.{_≡_};
-ghost use Prim.Native.Nat.{_*_};
 ghost use lib.ListN.{length};
 ghost use Rattle.picture.specs.Planes.{bytesOf, cleared};
 ghost use Rattle.picture.specs.Sizes.{fullBytes};
@@ -14,14 +11,9 @@ ghost use Rattle.picture.specs.Answer.{answered, lent, lentCopy};
 ghost use Rattle.planes.specs.Planar.{onPlanes};
 ghost use Rattle.gaussian_blur.specs.Needs.{BlurReady, BlurAccepted};
 ghost use Rattle.gaussian_blur.specs.Outcome.{blurChecks, blurredOrKept};
-ghost use Rattle.binary32.specs.Round.{wholeOffset};
-ghost use Rattle.shift.specs.Shift.{shiftedPicture};
-ghost use Rattle.shift.specs.Bytes.{along, OneWay};
-ghost use Rattle.shift.specs.Outcome.{ShiftReady, shiftChecks};
 ghost use Rattle.drop_shadow.specs.Shadowed.{shadowed};
 ghost use Rattle.drop_shadow.specs.Needs.{ShadowReady, ShadowAccepted};
-ghost use Rattle.plane_filters.specs.Shifted.{planesShifted};
-ghost use Rattle.plane_filters.specs.Outcome.{blurPlanesOutcome, shiftPlanesOutcome, shadowPlanesOutcome};
+ghost use Rattle.plane_filters.specs.Outcome.{blurPlanesOutcome, shadowPlanesOutcome};
 
 // Blurs planes as the picture that they are: it is made in the scratch, with the planes' own bytes as its scratch.
 fn apply_blur_planes(
@@ -121,65 +113,6 @@ pub fn blur_planes(
     let size = picture::full_size(w, h);
     let mode = picture::edge_mode(edge);
     blur_planes_accepted(planes, scratch, size, n, weights, mode, strength);
-    0
-}
-
-// Moves each of four planes of h rows of w bytes by dx and dy.
-fn move_planes(planes: &mut [u8], w: usize, h: usize, dx: ByteOffset, dy: Offset)
-    requires { ⌜ (length (now planes) ≡ 4 * (h * w)) × OneWay (along dx) × OneWay dy ⌝ }
-    ensures { λ _. ⌜ now (planes .exit) ≡ planesShifted (along dx) dy w h (now (planes .entry)) ⌝ }
-{
-    let n = planes.len() / 4;
-    let mut c = 0;
-    while c < 4 {
-        let start = c * n;
-        shift::move_plane(&mut planes[start..start + n], w, h, dx, dy);
-        c += 1;
-    }
-}
-
-// Moves four planes by dx and dy, each rounded to whole pixels.
-fn offset_planes(planes: &mut [u8], size: FullSize, dx: f32, dy: f32)
-    requires { ⌜ ShiftReady size (now planes) dx dy ⌝ }
-    ensures { λ _. ⌜ now (planes .exit) ≡ onPlanes (size .w) (size .h) (shiftedPicture (wholeOffset dx) (wholeOffset dy) (size .w) (size .h)) (now (planes .entry)) ⌝ }
-{
-    let w = size.width();
-    let h = size.height();
-    let across = binary32::round_offset(dx, w);
-    let down = binary32::round_offset(dy, h);
-    move_planes(
-        planes,
-        w,
-        h,
-        ByteOffset {
-            plus: across.plus,
-            minus: across.minus,
-        },
-        down,
-    );
-}
-
-// The first of refusals 1, 2 and 7 that fits, 0 where none does; of the planes' length.
-fn shift_planes_refusal(planes: usize, w: u32, h: u32, dx: f32, dy: f32) -> u32
-    ensures { λ r. ⌜ r ≡ firstOf (shiftChecks planes w h dx dy) ⌝ }
-{
-    picture::picture_refusal(
-        planes,
-        w,
-        h,
-        picture::first(picture::NOT_FINITE, shift::wrong_offsets(dx, dy), 0),
-    )
-}
-
-// Moves four planes of w by h by dx and dy, rounded to whole pixels. Answers the refusal number.
-pub fn shift_planes(planes: &mut [u8], w: u32, h: u32, dx: f32, dy: f32) -> u32
-    ensures { λ r. ⌜ answered r (now (planes .exit)) ≡ shiftPlanesOutcome (now (planes .entry)) w h dx dy ⌝ }
-{
-    let refusal = shift_planes_refusal(planes.len(), w, h, dx, dy);
-    if refusal != 0 {
-        return refusal;
-    }
-    offset_planes(planes, picture::full_size(w, h), dx, dy);
     0
 }
 

@@ -2,6 +2,7 @@
 pub mod Planar
 pub mod Filled
 pub mod Once
+pub mod Same
 pub mod Entry
 pub mod Returned
 pub mod Determined

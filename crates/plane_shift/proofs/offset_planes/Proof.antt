@@ -7,9 +7,9 @@ use Rattle.picture.proofs.Sizes.{room-is}
 use Rattle.binary32.specs.Round.{wholeOffset}
 use Rattle.binary32.proofs.Offsets.{held}
 use Rattle.shift.proofs.Rounded.{one-way, both-finite, rounded-held}
-use Rattle.plane_filters.proofs.Shifted.{planes-length, planes-moved}
-use Rattle.plane_filters.proofs.offset_planes.Statement.{statement}
-use Rattle.plane_filters.proofs.offset_planes.Tie as tie
+use Rattle.plane_shift.proofs.Shifted.{planes-length, planes-moved}
+use Rattle.plane_shift.proofs.offset_planes.Statement.{statement}
+use Rattle.plane_shift.proofs.offset_planes.Tie as tie
 
 abbrev start : tie.After-height → tie.Start
 start c = c .before .before .before

@@ -1,8 +1,8 @@
 -- Each number is answered where its check refuses and none before it does.
 use borrow.Author.Needs.{needs}
 use Rattle.picture.proofs.Passed.{in-front, in-front-of, none}
-use Rattle.plane_filters.proofs.shift_planes_refusal.Statement.{statement}
-use Rattle.plane_filters.proofs.shift_planes_refusal.Tie as tie
+use Rattle.plane_shift.proofs.shift_planes_refusal.Statement.{statement}
+use Rattle.plane_shift.proofs.shift_planes_refusal.Tie as tie
 
 returns : tie.Need-returns
 returns c =

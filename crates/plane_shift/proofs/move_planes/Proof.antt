@@ -1,13 +1,13 @@
 -- The planes below c are moved, and the others are as they were.
 use mathlib.Core.Path.{_≡_, refl}
-use Prim.Native.Nat.{ℕ, _+_, _-_, _*_, _/_, _≤_}
+use Prim.Native.Nat.{_+_, _-_, _*_, _/_, _≤_}
 use native.Mathlib.Omega.{arith}
 use lib.ListN.{length, length-take, length-drop}
 use Rattle.picture.proofs.Spans.{within}
 use Rattle.shift.specs.Bytes.{along}
-use Rattle.plane_filters.proofs.Shifted.{BelowMoved, none-moved, plane-more, all-moved}
-use Rattle.plane_filters.proofs.move_planes.Statement.{statement}
-use Rattle.plane_filters.proofs.move_planes.Tie as tie
+use Rattle.plane_shift.proofs.Shifted.{BelowMoved, none-moved, plane-more, all-moved}
+use Rattle.plane_shift.proofs.move_planes.Statement.{statement}
+use Rattle.plane_shift.proofs.move_planes.Tie as tie
 
 abbrev Inv-loop : tie.InvT-loop
 Inv-loop planes₀ w h dx dy n c₀ planes c = (c ≤ 4) × (length planes ≡ length planes₀) × BelowMoved (along dx) dy w h planes₀ planes c

@@ -3,9 +3,9 @@ use mathlib.Core.Path.{sym, _∙_}
 use borrow.Author.Needs.{needs}
 use Rattle.picture.proofs.Answers.{refused, done}
 use Rattle.shift.proofs.Entry.{sides-passed, call-ready}
-use Rattle.plane_filters.specs.Outcome.{shiftPlanesOutcome}
-use Rattle.plane_filters.proofs.shift_planes.Statement.{statement}
-use Rattle.plane_filters.proofs.shift_planes.Tie as tie
+use Rattle.plane_shift.specs.Shifted.{shiftPlanesOutcome}
+use Rattle.plane_shift.proofs.shift_planes.Statement.{statement}
+use Rattle.plane_shift.proofs.shift_planes.Tie as tie
 
 returns : tie.Need-returns
 unfolding shiftPlanesOutcome

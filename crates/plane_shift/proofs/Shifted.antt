@@ -4,12 +4,12 @@ use mathlib.Core.Bool.{Bool, true, false}
 use mathlib.Core.List.{List}
 use Prim.Native.Nat.{ℕ, _+_, _-_, _*_, _≤_, _<_}
 use native.Mathlib.Omega.{arith}
-use native.Mathlib.Nat.{mul-comm, mul-le-mul-right, add-mul, one-mul}
+use native.Mathlib.Nat.{mul-comm}
 use lib.Dec.{ltb}
-use lib.ListN.{length, getD, take, drop, length-take, length-drop}
+use lib.ListN.{length, getD, length-take, length-drop}
 use borrow.Author.Tests.{ltb-true, ltb-false}
 use borrow.Rule.Slice.PartMut.{midOf, putMid, same-len-mid}
-use Rattle.picture.specs.Planes.{Plane, bytesOf, chan}
+use Rattle.picture.specs.Planes.{Plane, bytesOf}
 use Rattle.picture.specs.Buffers.{lineOf}
 use Rattle.picture.proofs.Build.{getD-build}
 use Rattle.picture.proofs.Planes.{quotient, remainder, pixel-fits}
@@ -24,8 +24,8 @@ use Rattle.shift.specs.Shift.{shifted, shiftedPicture}
 use Rattle.shift.specs.Bytes.{planeShifted, OneWay}
 use Rattle.shift.proofs.Moved.{moved-ext}
 use Rattle.shift.proofs.Rounded.{held-picture}
-use Rattle.plane_filters.specs.Shifted.{planesShifted}
-use Rattle.plane_filters.proofs.Lent.{put-before, put-inside, put-after, mid-at}
+use Rattle.plane_shift.specs.Shifted.{planesShifted}
+use Rattle.plane_shift.proofs.Lent.{put-before, put-inside, put-after, mid-at}
 
 module _ (dx dy : Offset) (w h : ℕ) where
   -- a plane that is moved looks only inside

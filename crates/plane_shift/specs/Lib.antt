@@ -1,0 +1,2 @@
+-- Four planes moved, and what the entry answers.
+pub mod Shifted
