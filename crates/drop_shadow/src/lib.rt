@@ -73,7 +73,7 @@ pub fn apply_drop_shadow(
 }
 
 // Refusal 3's condition, of both work buffers.
-fn either_short(scratch: usize, copy: usize, w: u32, h: u32) -> bool
+pub fn either_short(scratch: usize, copy: usize, w: u32, h: u32) -> bool
     ensures { λ r. ⌜ r ≡ eitherShort scratch copy w h ⌝ }
 {
     if picture::too_short(scratch, w, h) {
@@ -83,7 +83,7 @@ fn either_short(scratch: usize, copy: usize, w: u32, h: u32) -> bool
 }
 
 // Refusal 7's condition.
-fn not_finite(recipe: Recipe) -> bool
+pub fn not_finite(recipe: Recipe) -> bool
     ensures { λ r. ⌜ r ≡ notFinite recipe ⌝ }
 {
     if shift::wrong_offsets(recipe.dx, recipe.dy) {
@@ -93,7 +93,7 @@ fn not_finite(recipe: Recipe) -> bool
 }
 
 // Refusal 8's condition.
-fn wrong_colour(recipe: Recipe) -> bool
+pub fn wrong_colour(recipe: Recipe) -> bool
     ensures { λ r. ⌜ r ≡ wrongColour recipe ⌝ }
 {
     let components = [recipe.red, recipe.green, recipe.blue, recipe.alpha];
