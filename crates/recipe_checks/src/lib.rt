@@ -231,8 +231,7 @@ pub fn run_step(
 // Clears both work buffers where nothing was refused.
 pub fn finish(before: Chained, w: u32, h: u32, scratch: &mut [u8], copy: &mut [u8]) -> Chained
     requires { ⌜ (before .number ≡ 0 → ChainRoom w h (now scratch) (now copy)) ⌝ }
-    ensures { λ r. ⌜ r ≡ before ⌝ }
-    ensures { λ _. ⌜ (now (scratch .exit) ≡ finished w h before (now (scratch .entry))) × (now (copy .exit) ≡ finished w h before (now (copy .entry))) ⌝ }
+    ensures { λ r. ⌜ (r ≡ before) × (now (scratch .exit) ≡ finished w h before (now (scratch .entry))) × (now (copy .exit) ≡ finished w h before (now (copy .entry))) ⌝ }
 {
     if before.number == 0 {
         let k = picture::full_size(w, h).bytes();

@@ -33,15 +33,13 @@ returns c =
     let none = eq-eqb _ 0 (c .before .before .before .before .before .before .before .before .before .before .if1 .taken) in
     let all = k-is (c .before .before .before .before .before .before .before .before) in (
       refl,
-      (
-        rw none (c .before .before .before .before .before .before .clear .ensures ∙ ap (λ (k : ℕ). cleared k (a .scratch .now)) all),
-        rw none (c .before .before .clear2 .ensures ∙ ap (λ (k : ℕ). cleared k (a .copy .now)) all),
-      ),
+      rw none (c .before .before .before .before .before .before .clear .ensures ∙ ap (λ (k : ℕ). cleared k (a .scratch .now)) all),
+      rw none (c .before .before .clear2 .ensures ∙ ap (λ (k : ℕ). cleared k (a .copy .now)) all),
     )
 
 returns-2 : tie.Need-returns-2
 unfolding finished
-returns-2 c = let some = ne-eqb _ 0 (c .if1 .left) in (refl, (rw some refl, rw some refl))
+returns-2 c = let some = ne-eqb _ 0 (c .if1 .left) in (refl, rw some refl, rw some refl)
 
 pub finish-spec : {M : Type 1} → statement M
 finish-spec =
