@@ -4,3 +4,4 @@ pub mod Again
 pub mod Found
 pub mod OneCall
 pub mod Done
+pub mod Theorems
