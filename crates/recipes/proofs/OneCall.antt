@@ -9,7 +9,7 @@ use lib.Dec.{eqb, lit<}
 use lib.Ieee.{Float}
 use lib.ListN.{length, take, drop, replicate, length-drop, length-replicate}
 use lib.Seq.{length-take-le, length-front}
-use borrow.Author.Tests.{ltb-false, eqb-false}
+use borrow.Author.Tests.{ltb-false, eqb-true, eqb-false}
 use Rattle.picture.specs.Planes.{bytesOf, cleared}
 use Rattle.picture.specs.Modes.{modeOf}
 use Rattle.picture.specs.declared.EdgeMode.{EdgeMode}
@@ -23,16 +23,16 @@ use Rattle.picture.proofs.Planes.{length-painted, cleared-is}
 use Rattle.picture.proofs.Tests.{neither}
 use Rattle.composite.specs.Shadow.{written, composed, coloured}
 use Rattle.shift.specs.Shift.{shiftedPicture}
-use Rattle.shift.specs.Outcome.{wrongOffsets, shiftOutcome}
+use Rattle.shift.specs.Outcome.{wrongOffsets, shiftChecks, shiftOutcome}
 use Rattle.gaussian_blur.specs.Blurred.{blurred}
-use Rattle.gaussian_blur.specs.Outcome.{aboveZero, blurredOrKept, blurOutcome}
+use Rattle.gaussian_blur.specs.Outcome.{aboveZero, blurChecks, blurredOrKept, blurOutcome}
 use Rattle.gaussian_blur.proofs.Outcomes.{cleared-part}
 use Rattle.drop_shadow.specs.Shadowed.{colourOf, shadowed}
-use Rattle.drop_shadow.specs.Outcome.{eitherShort, notFinite, wrongColour, shadowOutcome}
+use Rattle.drop_shadow.specs.Outcome.{eitherShort, notFinite, wrongColour, shadowChecks, shadowOutcome}
 use Rattle.recipe_checks.specs.declared.Step.{Step}
-use Rattle.recipe_checks.specs.Own.{kernels, kernelOf, stepKernel, recipeOf, unknown, kernelOwn, shiftOwn, blurOwn, shadowOwn, ownNumber}
+use Rattle.recipe_checks.specs.Own.{kernels, kernelOf, stepKernel, recipeOf, unknown, kernelOwn, shiftOwn, blurOwn, shadowOwn, operationOwn, ownNumber}
 use Rattle.recipe_checks.specs.Single.{composited, kernelCall, singleCall, worked}
-use Rattle.recipe_checks.proofs.Known.{known-kernel, inside}
+use Rattle.recipe_checks.proofs.Known.{known-kernel, inside, own-is}
 
 -- what 1 to 3 let through, of the buffers' lengths
 pub record Framed (w h p s c : ℕ) : Type 0 where
@@ -170,3 +170,51 @@ module _ (table : List Float) (w h : ℕ) (step : Step) (p s c : List ℕ) (fram
   pub calls : ownNumber table step ≡ 0 → Calls
   unfolding ownNumber
   calls good = let own = passed _ _ (lit< tt) (sym good) in by-operation (own .0) (eqb (step .operation) 1) refl (own .1)
+
+-- ---- a recipe that 19 lets through, good or not, of at most 33 taps: its single call answers its own number
+number-by : {A : Type 0} (k : ℕ) (a b : A) (t : Bool) → eqb k 0 ≡ t → cond t (answered 0 b) (answered k a) .number ≡ k
+number-by k a b true e = sym (eqb-true k 0 e)
+number-by k a b false e = refl
+
+settled-number : {A : Type 0} (k : ℕ) (a b : A) → settled k a b .number ≡ k
+unfolding settled
+settled-number k a b = number-by k a b (eqb k 0) refl
+
+kernel-long : (table : List Float) (k taps : ℕ) → k < kernels (length table) → taps ≤ 33 → length (kernelOf table k taps) ≡ taps
+unfolding kernelOf maxTaps
+kernel-long table k taps l within =
+    length-take-le (min taps 33) (drop (33 * k) table) (rw (length-drop (33 * k) table) (omega (arith, inside (length table) k l, min-le-right taps 33))) ∙ min-eq-left within
+
+module _ (table : List Float) (w h : ℕ) (step : Step) (p s c : List ℕ) (framed : Framed w h (length p) (length s) (length c)) (known : unknown (length table) step ≡ false) (within : step .taps ≤ 33) where
+  abbrev Answers : Type 0
+  Answers = singleCall table w h step (lentCopy p s c) .number ≡ ownNumber table step
+
+  shift-alike : firstOf (shiftChecks (length p) w h (step .dx) (step .dy)) ≡ firstOf (shiftOwn step)
+  unfolding firstOf firstElse
+  shift-alike = rw (framed .sides, framed .exact)
+
+  blur-alike : length (stepKernel table step) ≡ step .taps →
+      firstOf (blurChecks (length p) w h (length s) (stepKernel table step) (step .n) (step .strength) (step .edge)) ≡ firstOf (kernelOwn table step ++ blurOwn step)
+  unfolding firstOf firstElse
+  blur-alike long = rw (framed .sides, framed .exact, framed .scratch-room, long)
+
+  shadow-alike : length (stepKernel table step) ≡ step .taps →
+      firstOf (shadowChecks (length p) w h (length s) (length c) (stepKernel table step) (step .n) (step .edge) (recipeOf step)) ≡ firstOf (kernelOwn table step ++ shadowOwn step)
+  unfolding firstOf firstElse eitherShort
+  shadow-alike long = rw (framed .sides, framed .exact, framed .scratch-room, framed .copy-room, long)
+
+  own-past : (k : ℕ) → k ≡ firstOf (operationOwn table step) → k ≡ ownNumber table step
+  own-past k e = own-is table step known e
+
+  by-kernel-answers : (b : Bool) → eqb (step .operation) 0 ≡ b → eqb (step .operation) 1 ≡ false → Answers
+  unfolding singleCall kernelCall blurOutcome shadowOutcome
+  by-kernel-answers true is other = own-past _ (rw (known, other, is) (settled-number _ _ _ ∙ blur-alike (kernel-long table (step .kernel) (step .taps) (known-kernel (length table) step known (eqb-false (step .operation) 1 other)) within)))
+  by-kernel-answers false is other = own-past _ (rw (known, other, is) (settled-number _ _ _ ∙ shadow-alike (kernel-long table (step .kernel) (step .taps) (known-kernel (length table) step known (eqb-false (step .operation) 1 other)) within)))
+
+  by-answers : (b : Bool) → eqb (step .operation) 1 ≡ b → Answers
+  unfolding singleCall shiftOutcome
+  by-answers true is = own-past _ (rw (known, is) (settled-number _ _ _ ∙ shift-alike))
+  by-answers false other = by-kernel-answers (eqb (step .operation) 0) refl other
+
+  pub own-answered : Answers
+  own-answered = by-answers (eqb (step .operation) 1) refl
