@@ -10,11 +10,11 @@ use Rattle.face_laws.proofs.Determined.{Determined}
 use Rattle.face_laws.proofs.Runs.{CanBeMet, SameRuns, same-runs}
 use Rattle.pam.specs.Import.{PictureRead, importOutcome}
 use Rattle.pam.specs.Export.{FileLeft, fileLeft, exportOutcome}
-use Rattle.corbelrush.specs.Images.{readIn}
-use Rattle.corbelrush.proofs.images.corbelrush_pam_read.Reads as pam-read
-use Rattle.corbelrush.proofs.images.corbelrush_pam_read.Kinds as pam-read-kinds
-use Rattle.corbelrush.proofs.images.corbelrush_pam_write.Reads as pam-write
-use Rattle.corbelrush.proofs.images.corbelrush_pam_write.Kinds as pam-write-kinds
+use Rattle.face_files.specs.Images.{readIn}
+use Rattle.face_files.proofs.images.corbelrush_pam_read.Reads as pam-read
+use Rattle.face_files.proofs.images.corbelrush_pam_read.Kinds as pam-read-kinds
+use Rattle.face_files.proofs.images.corbelrush_pam_write.Reads as pam-write
+use Rattle.face_files.proofs.images.corbelrush_pam_write.Kinds as pam-write-kinds
 
 -- ---- reading an image file
 pub pam-read-determined : Determined pam-read-kinds.ps pam-read-kinds.r pam-read.Post (λ κs r x. answered r (readIn (now (x .1 .1 .0)) (now (x .1 .1 .1 .0)) (now (x .1 .1 .1 .1 .0)) (now (x .1 .0))))

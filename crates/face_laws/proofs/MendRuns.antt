@@ -9,10 +9,10 @@ use Rattle.picture.specs.Answer.{Answer, answered}
 use Rattle.face_laws.proofs.Determined.{Determined}
 use Rattle.face_laws.proofs.Runs.{CanBeMet, SameRuns, same-runs}
 use Rattle.mending.specs.Outcome.{MendLeft, mendLeft, mendOutcome, rebuildOutcome}
-use Rattle.corbelrush.proofs.mends.corbelrush_mend.Reads as mend
-use Rattle.corbelrush.proofs.mends.corbelrush_mend.Kinds as mend-kinds
-use Rattle.corbelrush.proofs.mends.corbelrush_rebuild.Reads as rebuild
-use Rattle.corbelrush.proofs.mends.corbelrush_rebuild.Kinds as rebuild-kinds
+use Rattle.face_grades.proofs.mends.corbelrush_mend.Reads as mend
+use Rattle.face_grades.proofs.mends.corbelrush_mend.Kinds as mend-kinds
+use Rattle.face_grades.proofs.mends.corbelrush_rebuild.Reads as rebuild
+use Rattle.face_grades.proofs.mends.corbelrush_rebuild.Kinds as rebuild-kinds
 
 -- ---- mend
 pub mend-determined : Determined mend-kinds.ps mend-kinds.r mend.Post (λ κs r x. answered r (mendLeft (now (x .0)) (now (x .1 .1 .1 .0)) (now (x .1 .1 .1 .1 .0))))

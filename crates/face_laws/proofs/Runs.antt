@@ -20,32 +20,34 @@ use Rattle.spread.specs.Spread.{reported}
 use Rattle.plate.specs.Lookup.{Picture, lookedUp, Beside, beside, labelledUp}
 use Rattle.plate_write.specs.Outcome.{Grown, grown, startOutcome, addOutcome}
 use Rattle.job.specs.Job as job
-use Rattle.corbelrush.specs.Words.{recipe, flag, reworded, Pointers, pointers, findingIn, pictureIn}
+use Rattle.face_filters.specs.Words.{recipe, flag}
+use Rattle.face_grades.specs.Words.{reworded, Pointers, pointers, findingIn}
+use Rattle.face_files.specs.Words.{pictureIn}
 use Rattle.pixels.specs.Pixels.{packed}
-use Rattle.corbelrush.proofs.filters.corbelrush_blur.Reads as blur
-use Rattle.corbelrush.proofs.filters.corbelrush_blur.Kinds as blur-kinds
-use Rattle.corbelrush.proofs.filters.corbelrush_shift.Reads as shift
-use Rattle.corbelrush.proofs.filters.corbelrush_shift.Kinds as shift-kinds
-use Rattle.corbelrush.proofs.filters.corbelrush_shadow.Reads as shadow
-use Rattle.corbelrush.proofs.filters.corbelrush_shadow.Kinds as shadow-kinds
-use Rattle.corbelrush.proofs.grades.corbelrush_check.Reads as check
-use Rattle.corbelrush.proofs.grades.corbelrush_check.Kinds as check-kinds
-use Rattle.corbelrush.proofs.grades.corbelrush_view.Reads as view
-use Rattle.corbelrush.proofs.grades.corbelrush_view.Kinds as view-kinds
-use Rattle.corbelrush.proofs.grades.corbelrush_sample.Reads as sample
-use Rattle.corbelrush.proofs.grades.corbelrush_sample.Kinds as sample-kinds
-use Rattle.corbelrush.proofs.grades.corbelrush_spread.Reads as spread
-use Rattle.corbelrush.proofs.grades.corbelrush_spread.Kinds as spread-kinds
-use Rattle.corbelrush.proofs.plates.corbelrush_plate_picture.Reads as plate-picture
-use Rattle.corbelrush.proofs.plates.corbelrush_plate_picture.Kinds as plate-picture-kinds
-use Rattle.corbelrush.proofs.plates.corbelrush_plate_label.Reads as plate-label
-use Rattle.corbelrush.proofs.plates.corbelrush_plate_label.Kinds as plate-label-kinds
-use Rattle.corbelrush.proofs.plates.corbelrush_plate_job.Reads as plate-job
-use Rattle.corbelrush.proofs.plates.corbelrush_plate_job.Kinds as plate-job-kinds
-use Rattle.corbelrush.proofs.plates.corbelrush_plate_start.Reads as plate-start
-use Rattle.corbelrush.proofs.plates.corbelrush_plate_start.Kinds as plate-start-kinds
-use Rattle.corbelrush.proofs.plates.corbelrush_plate_add.Reads as plate-add
-use Rattle.corbelrush.proofs.plates.corbelrush_plate_add.Kinds as plate-add-kinds
+use Rattle.face_filters.proofs.filters.corbelrush_blur.Reads as blur
+use Rattle.face_filters.proofs.filters.corbelrush_blur.Kinds as blur-kinds
+use Rattle.face_filters.proofs.filters.corbelrush_shift.Reads as shift
+use Rattle.face_filters.proofs.filters.corbelrush_shift.Kinds as shift-kinds
+use Rattle.face_filters.proofs.filters.corbelrush_shadow.Reads as shadow
+use Rattle.face_filters.proofs.filters.corbelrush_shadow.Kinds as shadow-kinds
+use Rattle.face_grades.proofs.grades.corbelrush_check.Reads as check
+use Rattle.face_grades.proofs.grades.corbelrush_check.Kinds as check-kinds
+use Rattle.face_grades.proofs.grades.corbelrush_view.Reads as view
+use Rattle.face_grades.proofs.grades.corbelrush_view.Kinds as view-kinds
+use Rattle.face_grades.proofs.grades.corbelrush_sample.Reads as sample
+use Rattle.face_grades.proofs.grades.corbelrush_sample.Kinds as sample-kinds
+use Rattle.face_grades.proofs.grades.corbelrush_spread.Reads as spread
+use Rattle.face_grades.proofs.grades.corbelrush_spread.Kinds as spread-kinds
+use Rattle.face_files.proofs.plates.corbelrush_plate_picture.Reads as plate-picture
+use Rattle.face_files.proofs.plates.corbelrush_plate_picture.Kinds as plate-picture-kinds
+use Rattle.face_files.proofs.plates.corbelrush_plate_label.Reads as plate-label
+use Rattle.face_files.proofs.plates.corbelrush_plate_label.Kinds as plate-label-kinds
+use Rattle.face_files.proofs.plates.corbelrush_plate_job.Reads as plate-job
+use Rattle.face_files.proofs.plates.corbelrush_plate_job.Kinds as plate-job-kinds
+use Rattle.face_files.proofs.plates.corbelrush_plate_start.Reads as plate-start
+use Rattle.face_files.proofs.plates.corbelrush_plate_start.Kinds as plate-start-kinds
+use Rattle.face_files.proofs.plates.corbelrush_plate_add.Reads as plate-add
+use Rattle.face_files.proofs.plates.corbelrush_plate_add.Kinds as plate-add-kinds
 
 module _ {n : ℕ} (ps : List (PK n)) (r : RK n) (Post : Out n ps r) where
   pub record CanBeMet : Type 0 where

@@ -7,8 +7,8 @@ use borrow.Fn.Kinds.{Dens}
 use denote.Ref.{now}
 use Rattle.picture.specs.Answer.{Answer, answered, Lent, lent}
 use Rattle.whole_blur.specs.Outcome.{wholeOutcome}
-use Rattle.corbelrush.proofs.wholes.corbelrush_blur_whole.Reads as whole
-use Rattle.corbelrush.proofs.wholes.corbelrush_blur_whole.Kinds as kinds
+use Rattle.face_filters.proofs.wholes.corbelrush_blur_whole.Reads as whole
+use Rattle.face_filters.proofs.wholes.corbelrush_blur_whole.Kinds as kinds
 use Rattle.face_laws.proofs.Determined.{Determined}
 use Rattle.face_laws.proofs.Runs.{SameRuns, same-runs, CanBeMet}
 

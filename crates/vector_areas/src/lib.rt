@@ -1,5 +1,5 @@
 // The functions that are lent a table of words.
-use corbelrush::areas;
+use face_sums::areas;
 use vector_parts::bounds;
 use vector_parts::buffers;
 use vector_parts::parts;

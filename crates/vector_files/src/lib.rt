@@ -1,6 +1,6 @@
 // The functions that are lent two buffers with content: a plate and a picture for it, or a picture and its file.
-use corbelrush::images;
-use corbelrush::plates;
+use face_files::images;
+use face_files::plates;
 use vector_parts::buffers;
 use vector_parts::parts;
 use vector_parts::replies;

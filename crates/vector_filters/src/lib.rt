@@ -1,6 +1,6 @@
 // The functions that are lent work buffers.
-use corbelrush::filters;
-use corbelrush::plates;
+use face_files::plates;
+use face_filters::filters;
 use vector_parts::buffers;
 use vector_parts::parts;
 use vector_parts::replies;

@@ -1,5 +1,5 @@
 // The functions that are lent a picture and a list of pairs: a place and a pixel each.
-use corbelrush::mends;
+use face_grades::mends;
 use vector_parts::bounds;
 use vector_parts::buffers;
 use vector_parts::lists;

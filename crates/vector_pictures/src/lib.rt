@@ -1,7 +1,7 @@
 // The functions that are lent a picture or a plate, and no other buffer.
-use corbelrush::filters;
-use corbelrush::grades;
-use corbelrush::plates;
+use face_files::plates;
+use face_filters::filters;
+use face_grades::grades;
 use vector_parts::buffers;
 use vector_parts::parts;
 use vector_parts::replies;

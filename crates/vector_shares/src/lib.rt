@@ -1,5 +1,5 @@
 // The functions that are lent numerators and no picture: a share, and a list of points.
-use corbelrush::explains;
+use face_sums::explains;
 use vector_parts::parts;
 use vector_parts::replies;
 use vector_parts::replies::Reply;

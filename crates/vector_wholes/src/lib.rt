@@ -1,5 +1,5 @@
 // The function that is lent numerators and a work buffer.
-use corbelrush::wholes;
+use face_filters::wholes;
 use vector_parts::buffers;
 use vector_parts::parts;
 use vector_parts::replies;

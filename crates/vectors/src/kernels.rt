@@ -1,5 +1,5 @@
 // The functions that are lent weights alone.
-use corbelrush::grades;
+use face_grades::grades;
 use vector_parts::buffers;
 use vector_parts::parts;
 use vector_parts::replies;

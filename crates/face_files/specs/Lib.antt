@@ -1,0 +1,3 @@
+-- How C gets what the readers of files answer.
+pub mod Words
+pub mod Images

@@ -1,0 +1,3 @@
+// Plates and image files as C and C++ link them: each function is one call of its entry; include/corbelrush.h declares them.
+pub mod images;
+pub mod plates;

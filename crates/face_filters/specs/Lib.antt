@@ -1,0 +1,2 @@
+-- What C passes to a filter.
+pub mod Words

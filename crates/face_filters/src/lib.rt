@@ -1,0 +1,3 @@
+// The filters as C and C++ link them: each function is one call of its entry; include/corbelrush.h declares them.
+pub mod filters;
+pub mod wholes;

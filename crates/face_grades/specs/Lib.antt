@@ -1,0 +1,2 @@
+-- How C gets what the check finds.
+pub mod Words

@@ -1,0 +1,3 @@
+// Grading and mending as C and C++ link them: each function is one call of its entry; include/corbelrush.h declares them.
+pub mod grades;
+pub mod mends;
