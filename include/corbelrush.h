@@ -125,6 +125,34 @@ uint32_t corbelrush_shadow(uint8_t *picture, size_t picture_len, uint32_t w, uin
                            float red, float green, float blue, float alpha, uint32_t composite);
 
 /*
+ * A picture as four planes: all r, then all g, b and a, each w * h bytes, row by row from the top, 4wh bytes in all.
+ * corbelrush_to_planes writes the planes of the picture src into dst, corbelrush_from_planes the picture of the planes
+ * src. Each undoes the other.
+ *
+ * Refusals: 1, 2 (src is not exactly 4wh bytes), 3 (dst under 4wh bytes).
+ * Done: the first 4wh bytes of dst are the other form, the rest of it is as it was. src is only read.
+ */
+uint32_t corbelrush_to_planes(const uint8_t *src, size_t src_len, uint32_t w, uint32_t h, uint8_t *dst, size_t dst_len);
+
+uint32_t corbelrush_from_planes(const uint8_t *src, size_t src_len, uint32_t w, uint32_t h, uint8_t *dst,
+                                size_t dst_len);
+
+/*
+ * Blur, shift and shadow of a picture that lies as four planes: the same numbers and, converted back, the same bytes as
+ * corbelrush_blur, corbelrush_shift and corbelrush_shadow leave, and the same of the work buffers, which are as long.
+ */
+uint32_t corbelrush_blur_planes(uint8_t *planes, size_t planes_len, uint32_t w, uint32_t h, uint8_t *scratch,
+                                size_t scratch_len, const float *weights, size_t weights_len, uint32_t n,
+                                float strength, uint32_t edge);
+
+uint32_t corbelrush_shift_planes(uint8_t *planes, size_t planes_len, uint32_t w, uint32_t h, float dx, float dy);
+
+uint32_t corbelrush_shadow_planes(uint8_t *planes, size_t planes_len, uint32_t w, uint32_t h, uint8_t *scratch,
+                                  size_t scratch_len, uint8_t *copy, size_t copy_len, const float *weights,
+                                  size_t weights_len, uint32_t n, uint32_t edge, float dx, float dy, float strength,
+                                  float red, float green, float blue, float alpha, uint32_t composite);
+
+/*
  * Looks for the first pixel of which r, g or b exceeds a, rows downward, each left to right. *found is 1 and *place its
  * place y * w + x, or both are 0 where there is none.
  *

@@ -6,3 +6,4 @@ pub mod MendRuns
 pub mod WholeRuns
 pub mod AreaRuns
 pub mod ShareRuns
+pub mod PlaneRuns

@@ -68,10 +68,10 @@ module _ {n : ℕ} (ps : List (PK n)) (r : RK n) (Post : Out n ps r) where
     same-runs outcome is κ₁ κ₂ a₁ a₂ e r₁ r₂ x₁ x₂ h₁ h₂ = is κ₁ a₁ r₁ x₁ h₁ ∙ ap outcome e ∙ sym (is κ₂ a₂ r₂ x₂ h₂)
 
 -- ---- blur
-abbrev BlurGiven : Type 0
+abbrev pub BlurGiven : Type 0
 BlurGiven = List ℕ × ℕ × ℕ × List ℕ × List Float × ℕ × Float × ℕ
 
-abbrev blurGiven : (κs : Lfts 3) → Dens κs blur-kinds.ps → BlurGiven
+abbrev pub blurGiven : (κs : Lfts 3) → Dens κs blur-kinds.ps → BlurGiven
 blurGiven κs a =
     let rest = a .1 .1 .1 in
     (now (a .0), a .1 .0, a .1 .1 .0, now (rest .0), now (rest .1 .0), rest .1 .1 .0, rest .1 .1 .1 .0, rest .1 .1 .1 .1 .0)
@@ -91,10 +91,10 @@ blur-met =
     }
 
 -- ---- shift
-abbrev ShiftGiven : Type 0
+abbrev pub ShiftGiven : Type 0
 ShiftGiven = List ℕ × ℕ × ℕ × Float × Float
 
-abbrev shiftGiven : (κs : Lfts 1) → Dens κs shift-kinds.ps → ShiftGiven
+abbrev pub shiftGiven : (κs : Lfts 1) → Dens κs shift-kinds.ps → ShiftGiven
 shiftGiven κs a = (now (a .0), a .1 .0, a .1 .1 .0, a .1 .1 .1 .0, a .1 .1 .1 .1 .0)
 
 abbrev shiftLeaves : ShiftGiven → Answer (List ℕ)
@@ -112,10 +112,10 @@ shift-met =
     }
 
 -- ---- shadow
-abbrev ShadowGiven : Type 0
+abbrev pub ShadowGiven : Type 0
 ShadowGiven = List ℕ × ℕ × ℕ × List ℕ × List ℕ × List Float × ℕ × ℕ × Recipe × ℕ
 
-abbrev shadowGiven : (κs : Lfts 4) → Dens κs shadow-kinds.ps → ShadowGiven
+abbrev pub shadowGiven : (κs : Lfts 4) → Dens κs shadow-kinds.ps → ShadowGiven
 shadowGiven κs a =
     let rest = a .1 .1 .1 in
     let given = rest .1 .1 .1 .1 .1 in

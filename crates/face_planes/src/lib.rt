@@ -42,7 +42,13 @@ pub extern "C" fn corbelrush_blur_planes(
 
 // Moves four planes of w by h by dx and dy, as `shift_planes` does.
 #[no_mangle]
-pub extern "C" fn corbelrush_shift_planes(planes: &mut [u8], w: u32, h: u32, dx: f32, dy: f32) -> u32
+pub extern "C" fn corbelrush_shift_planes(
+    planes: &mut [u8],
+    w: u32,
+    h: u32,
+    dx: f32,
+    dy: f32,
+) -> u32
     ensures { λ r. ⌜ answered r (now (planes .exit)) ≡ shiftPlanesOutcome (now (planes .entry)) w h dx dy ⌝ }
 {
     plane_shift::shift_planes(planes, w, h, dx, dy)
