@@ -23,7 +23,7 @@ use Rattle.recipes.proofs.Found.{found-by, none-by, head-good, none-bad
 use Rattle.recipes.proofs.OneCall.{Framed, Left, calls, worked-length}
 
 -- 1 to 3 let through
-framed-of : (w h p s c : ℕ) → firstOf (frameChecks p w h s c) ≡ 0 → Framed w h p s c
+pub framed-of : (w h p s c : ℕ) → firstOf (frameChecks p w h s c) ≡ 0 → Framed w h p s c
 unfolding eitherShort
 framed-of w h p s c e =
     let one = passed _ _ (lit< tt) (sym e) in
