@@ -57,6 +57,7 @@ enum {
     CORBELRUSH_EXCEEDS = 16,      /* a channel exceeds its alpha */
     CORBELRUSH_LIST_FULL = 17,    /* the list has room for fewer entries than there are */
     CORBELRUSH_WRONG_LIST = 18,   /* a place of the list lies outside the picture, or is not above the one before it */
+    CORBELRUSH_WRONG_RECIPE = 19, /* a recipe has no operation of that number, or no kernel of that index */
     CORBELRUSH_WRONG_BOX = 20,    /* the box is empty, too large or partly outside the picture, or the place outside */
     CORBELRUSH_TOO_DEEP_TO_SHARE = 21, /* n is above 3, the most that shares are worked out for */
     CORBELRUSH_OUTSIDE = 22       /* a place lies outside the picture */
@@ -123,6 +124,52 @@ uint32_t corbelrush_shadow(uint8_t *picture, size_t picture_len, uint32_t w, uin
                            size_t scratch_len, uint8_t *copy, size_t copy_len, const float *weights,
                            size_t weights_len, uint32_t n, uint32_t edge, float dx, float dy, float strength,
                            float red, float green, float blue, float alpha, uint32_t composite);
+
+/* The operation of a recipe. */
+enum {
+    CORBELRUSH_RECIPE_BLUR = 0,
+    CORBELRUSH_RECIPE_SHIFT = 1,
+    CORBELRUSH_RECIPE_SHADOW = 2
+};
+
+/*
+ * A recipe of a list: an operation and its numbers. A blur reads kernel, taps, n, edge and strength; a shift dx and dy
+ * alone; a shadow every field. What its operation does not read may hold anything.
+ */
+typedef struct {
+    uint32_t operation;             /* CORBELRUSH_RECIPE_BLUR, CORBELRUSH_RECIPE_SHIFT or CORBELRUSH_RECIPE_SHADOW */
+    uint32_t kernel;                /* the index of its kernel in the table, counted from 0 */
+    uint32_t taps;                  /* how many weights it has: the first taps of the kernel's 33 */
+    uint32_t n;                     /* its decimations */
+    uint32_t edge;                  /* its edge rule, CORBELRUSH_DUPLICATE to CORBELRUSH_NONE */
+    uint32_t composite;             /* 0: the shadow alone; else the picture over it */
+    float dx, dy;                   /* its offset */
+    float strength;                 /* of its blur */
+    float red, green, blue, alpha;  /* the shadow's colour */
+} corbelrush_recipe;
+
+#if defined(__cplusplus) && __cplusplus >= 201103L
+static_assert(sizeof(corbelrush_recipe) == 52, "a recipe has 52 bytes");
+#elif defined(__STDC_VERSION__) && __STDC_VERSION__ >= 201112L
+_Static_assert(sizeof(corbelrush_recipe) == 52, "a recipe has 52 bytes");
+#endif
+
+/*
+ * Runs a list of recipes in order on one picture: each does what corbelrush_blur, corbelrush_shift or corbelrush_shadow
+ * does to the picture that the one before it left. Kernel k is the 33 weights from table + 33k on, and a recipe of t taps
+ * has the first t of them; weights at the end of the table that are fewer than 33 are no kernel. All recipes are checked
+ * before the first runs. A list of no recipes is done, and leaves the picture. The list is aligned to 4.
+ *
+ * Refusals: 1, 2, 3 (scratch or copy under 4wh bytes, whatever the recipes are); then those of the first recipe that has
+ * one, in the order 19 (the operation is above 2; or, but for a shift, the table has no such kernel), 4 (taps), 5 (one of
+ * those taps), 6, 7 (a blur's strength; a shift's dx or dy; any of the three of a shadow), 8, 9, each where its operation
+ * has it: *index is that recipe's, counted from 0. Beside 1, 2 and 3, and when done, *index is 0.
+ * Done: picture is what the recipes made of it; the first 4wh bytes of scratch and of copy are 0, the rest of both is as
+ * it was. The recipes and the table are only read.
+ */
+uint32_t corbelrush_recipes(uint8_t *picture, size_t picture_len, uint32_t w, uint32_t h, uint8_t *scratch,
+                            size_t scratch_len, uint8_t *copy, size_t copy_len, const corbelrush_recipe *recipes,
+                            size_t count, const float *table, size_t weights, uint64_t *index);
 
 /*
  * A picture as four planes: all r, then all g, b and a, each w * h bytes, row by row from the top, 4wh bytes in all.

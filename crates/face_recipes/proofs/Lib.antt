@@ -1,0 +1,2 @@
+-- What the contract of the function for C promises.
+pub mod Promised
