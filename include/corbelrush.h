@@ -22,7 +22,13 @@
  *     entries as the number beside it says.
  *   - No two buffers or numbers of one call overlap, unless the function only reads both.
  *   - The pointers through which numbers are answered are not null.
- *   - The floating-point environment is the one that a program starts with: rounding to nearest, no flushing to zero.
+ *   - The floating-point environment is the one that a program starts with: rounding to nearest, no flushing to zero. A
+ *     program that is linked with -Ofast or -ffast-math starts with denormals flushed to zero, and then answers differ.
+ *
+ * Room that is always enough: w * h entries for a list; 4wh + CORBELRUSH_PAM_HEADER bytes for an image file that is
+ * written, and as many bytes as the file has for the picture of one that is read; as many bytes as the plate has for the
+ * scratch of its job.
+ *
  * The functions keep nothing between calls, allocate nothing and read nothing but their arguments, so threads may call
  * them at the same time on different buffers. A call uses less than 256 KiB of stack, whatever it is handed.
  */
@@ -31,6 +37,27 @@
 
 #include <stddef.h>
 #include <stdint.h>
+
+/* The version of this header and of the library that belongs to it. */
+#define CORBELRUSH_VERSION_MAJOR 1
+#define CORBELRUSH_VERSION_MINOR 0
+#define CORBELRUSH_VERSION_PATCH 0
+
+/* Limits, and the numbers that values are counted in. */
+#define CORBELRUSH_MAX_SIDE 16384              /* of a picture, in pixels */
+#define CORBELRUSH_MAX_TAPS 33                 /* weights or numerators of a kernel */
+#define CORBELRUSH_MAX_DECIMATIONS 14          /* n of a blur, a shadow and a spread */
+#define CORBELRUSH_MAX_SHARE_DECIMATIONS 3     /* n of shares */
+#define CORBELRUSH_GRID 65536                  /* numerators count in 1/65536, and sum to at most this */
+#define CORBELRUSH_SPREAD_UNIT 131072          /* a spread counts in 1/131072 of a square pixel */
+#define CORBELRUSH_MAX_BOX 16843009            /* pixels of a box of area sums */
+#define CORBELRUSH_PAM_HEADER 73               /* bytes of the longest header of an image file */
+#define CORBELRUSH_MAX_PLATE_VERSION 3
+#define CORBELRUSH_MAX_PLATE_PICTURES 64
+#define CORBELRUSH_MAX_PLATE_BYTES 16777216    /* of a plate of version 3, whose sides go to CORBELRUSH_MAX_SIDE */
+#define CORBELRUSH_SMALL_PLATE_BYTES 16384     /* of a plate of version 1 or 2 */
+#define CORBELRUSH_SMALL_PLATE_SIDE 4096       /* of a picture in one of those */
+#define CORBELRUSH_STACK 262144                /* bytes of stack that are enough for any call */
 
 #ifdef __cplusplus
 extern "C" {
@@ -63,6 +90,37 @@ enum {
     CORBELRUSH_OUTSIDE = 22       /* a place lies outside the picture */
 };
 
+/* What a number that a function returns says, in words. */
+static inline const char *corbelrush_says(uint32_t number)
+{
+    static const char *const words[] = {
+        "done",
+        "w or h is 0 or above 16384",
+        "the picture is not exactly 4wh bytes",
+        "a work buffer, a table or the room to write to is too short",
+        "the number of weights or numerators is 0 or above 33",
+        "a weight is NaN, below 0 or above 1",
+        "n is above 14",
+        "the strength or an offset is NaN or infinite",
+        "a colour component is NaN, below 0 or above 1",
+        "the edge number is none of the four",
+        "the file breaks a rule of plates, or there is no such version or unit",
+        "a weight is no multiple of 1/65536, or the weights do not sum to 1",
+        "the plate has no picture of that index",
+        "the plate would pass 64 pictures, the most bytes of its version or its buffer",
+        "the numerators sum to more than 65536",
+        "the file is no PAM file of the one spelling that is read, or its length does not fit",
+        "a channel exceeds its alpha",
+        "the list has room for fewer entries than there are",
+        "a place of the list lies outside the picture, or is not above the one before it",
+        "a recipe names no operation that there is, or no kernel of the table",
+        "the box is empty, too large or partly outside the picture, or the place outside",
+        "n is above 3, the most that shares are worked out for",
+        "a place lies outside the picture"
+    };
+    return number < sizeof words / sizeof *words ? words[number] : "no number that a function returns";
+}
+
 /* What a picture is beyond its borders. */
 enum {
     CORBELRUSH_DUPLICATE = 0, /* its nearest pixel */
@@ -80,6 +138,9 @@ enum {
 /*
  * Blurs a picture: n halvings, the convolution by the weights in rows and in columns, n doublings. Weight j is that of
  * the pixel j - weights_len / 2 to the right or below; n is 0 to 14. A strength at or below 0 leaves the picture as it is.
+ *
+ * The strength is a switch: 1 and 100 give the same bytes. The weights need not sum to 1: a sum below 1 darkens, and one
+ * above 1 whitens, since a channel is held at 255; corbelrush_spread, which refuses both as 11, is the kernel's check.
  *
  * Refusals: 1, 2, 3 (scratch under 4wh bytes), 4, 5, 6, 7 (strength), 9.
  * Done: picture is blurred, the first 4wh bytes of scratch are 0, the rest of it is as it was.
