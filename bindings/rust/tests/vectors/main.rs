@@ -1,0 +1,38 @@
+//! The stored vectors (crates/replay/stdin) through the binding.
+mod call;
+mod stored;
+
+use call::{Call, Outcome};
+use corbelrush::{Refusal, Worker};
+use std::collections::BTreeSet;
+use std::fs::read_to_string;
+use stored::Vector;
+
+/// What the vector says. A sample answers no number, so that its pixel stands there.
+fn wanted(v: &Vector, made: &Outcome) -> Outcome {
+    match v.entry {
+        6 => Outcome { number: made.number, out: [v.answer.into(), 0, 0, 0], by: v.after.clone() },
+        _ => Outcome { number: v.answer, out: v.out, by: v.after.clone() },
+    }
+}
+
+#[test]
+fn every_vector_through_the_binding() {
+    let text = read_to_string(concat!(env!("CARGO_MANIFEST_DIR"), "/../../crates/replay/stdin")).unwrap();
+    let (mut worker, mut entries, mut count) = (Worker::new(), BTreeSet::new(), 0);
+    for line in text.lines() {
+        let vector = stored::read(line);
+        let made = Call::outcome(&vector, None);
+        let wanted = wanted(&vector, &made);
+        count += 1;
+        assert_eq!(made, wanted, "vector {count}");
+        // A worker has room, so that nothing is refused as 3 there.
+        if wanted.number != Refusal::TooShort.number() {
+            let kept = Call::outcome(&vector, Some(&mut worker));
+            let made = (kept.number, kept.out, kept.by.bytes);
+            assert_eq!(made, (wanted.number, wanted.out, wanted.by.bytes), "vector {count}, with a worker");
+        }
+        entries.insert(vector.entry);
+    }
+    println!("{count} vectors of {} functions", entries.len());
+}
