@@ -158,6 +158,8 @@ struct pam_written {
 template <class T> class taps {
 public:
     span<const T> values() const noexcept { return {values_.data(), count_}; }
+    // Its row in the table of a list of recipes: zeros come after its taps.
+    const std::array<T, CORBELRUSH_MAX_TAPS> &row() const noexcept { return values_; }
 
 protected:
     void take(span<const T> given) noexcept
@@ -222,13 +224,42 @@ struct shadow_settings {
 
 template <class E> constexpr std::uint32_t number(E value) noexcept { return static_cast<std::uint32_t>(value); }
 
-// ---- blur, shift and shadow
+// ---- blur, shift and shadow, of a picture and of its four planes: all r, then all g, b and a
+
+namespace by {
+
+template <class F> status blur(F function, bytes picture, size s, bytes scratch, const blur_settings &how) noexcept
+{
+    const auto weights = how.weights.values();
+    return status{function(picture.data(), picture.size(), s.w, s.h, scratch.data(), scratch.size(), weights.data(),
+                           weights.size(), how.n.value, how.s.value, number(how.beyond))};
+}
+
+template <class F>
+status shadow(F function, bytes picture, size s, bytes scratch, bytes copy, const shadow_settings &how) noexcept
+{
+    const auto weights = how.blur.weights.values();
+    return status{function(picture.data(), picture.size(), s.w, s.h, scratch.data(), scratch.size(), copy.data(),
+                           copy.size(), weights.data(), weights.size(), how.blur.n.value, number(how.blur.beyond),
+                           how.by.dx, how.by.dy, how.blur.s.value, how.colour.red, how.colour.green, how.colour.blue,
+                           how.colour.alpha, number(how.composite))};
+}
+
+template <class F> status convert(F function, const_bytes from, size s, bytes to) noexcept
+{
+    return status{function(from.data(), from.size(), s.w, s.h, to.data(), to.size())};
+}
+
+} // namespace by
 
 inline status blur(bytes picture, size s, bytes scratch, const blur_settings &how) noexcept
 {
-    const auto weights = how.weights.values();
-    return status{corbelrush_blur(picture.data(), picture.size(), s.w, s.h, scratch.data(), scratch.size(),
-                                  weights.data(), weights.size(), how.n.value, how.s.value, number(how.beyond))};
+    return by::blur(corbelrush_blur, picture, s, scratch, how);
+}
+
+inline status blur_planes(bytes planes, size s, bytes scratch, const blur_settings &how) noexcept
+{
+    return by::blur(corbelrush_blur_planes, planes, s, scratch, how);
 }
 
 inline status blur_whole(bytes picture, size s, bytes scratch, const whole_settings &how) noexcept
@@ -243,13 +274,82 @@ inline status shift(bytes picture, size s, offset by) noexcept
     return status{corbelrush_shift(picture.data(), picture.size(), s.w, s.h, by.dx, by.dy)};
 }
 
+inline status shift_planes(bytes planes, size s, offset by) noexcept
+{
+    return status{corbelrush_shift_planes(planes.data(), planes.size(), s.w, s.h, by.dx, by.dy)};
+}
+
 inline status shadow(bytes picture, size s, bytes scratch, bytes copy, const shadow_settings &how) noexcept
 {
-    const auto weights = how.blur.weights.values();
-    return status{corbelrush_shadow(picture.data(), picture.size(), s.w, s.h, scratch.data(), scratch.size(), copy.data(),
-                                    copy.size(), weights.data(), weights.size(), how.blur.n.value,
-                                    number(how.blur.beyond), how.by.dx, how.by.dy, how.blur.s.value, how.colour.red,
-                                    how.colour.green, how.colour.blue, how.colour.alpha, number(how.composite))};
+    return by::shadow(corbelrush_shadow, picture, s, scratch, copy, how);
+}
+
+inline status shadow_planes(bytes planes, size s, bytes scratch, bytes copy, const shadow_settings &how) noexcept
+{
+    return by::shadow(corbelrush_shadow_planes, planes, s, scratch, copy, how);
+}
+
+inline status to_planes(const_bytes picture, size s, bytes planes) noexcept
+{
+    return by::convert(corbelrush_to_planes, picture, s, planes);
+}
+
+inline status from_planes(const_bytes planes, size s, bytes picture) noexcept
+{
+    return by::convert(corbelrush_from_planes, planes, s, picture);
+}
+
+// ---- lists of recipes
+
+// The row of the table that a recipe's kernel stands in.
+struct kernel_row {
+    std::uint32_t value;
+    explicit constexpr kernel_row(std::uint32_t row) noexcept : value(row) {}
+};
+
+inline corbelrush_recipe blur_recipe(kernel_row row, const blur_settings &how) noexcept
+{
+    corbelrush_recipe made = {};
+    made.kernel = row.value;
+    made.taps = static_cast<std::uint32_t>(how.weights.values().size());
+    made.n = how.n.value;
+    made.edge = number(how.beyond);
+    made.strength = how.s.value;
+    return made;
+}
+
+inline corbelrush_recipe shift_recipe(offset by) noexcept
+{
+    corbelrush_recipe made = {};
+    made.operation = 1;
+    made.dx = by.dx;
+    made.dy = by.dy;
+    return made;
+}
+
+inline corbelrush_recipe shadow_recipe(kernel_row row, const shadow_settings &how) noexcept
+{
+    corbelrush_recipe made = blur_recipe(row, how.blur);
+    made.operation = 2;
+    made.composite = number(how.composite);
+    made.dx = how.by.dx;
+    made.dy = how.by.dy;
+    made.red = how.colour.red;
+    made.green = how.colour.green;
+    made.blue = how.colour.blue;
+    made.alpha = how.colour.alpha;
+    return made;
+}
+
+// The index of the first bad recipe. The table has CORBELRUSH_MAX_TAPS weights a kernel: kernel::row one after the other.
+inline result<std::uint64_t> recipes(bytes picture, size s, bytes scratch, bytes copy, span<const corbelrush_recipe> list,
+                                     span<const float> table) noexcept
+{
+    std::uint64_t index;
+    const status why{corbelrush_recipes(picture.data(), picture.size(), s.w, s.h, scratch.data(), scratch.size(),
+                                        copy.data(), copy.size(), list.data(), list.size(), table.data(), table.size(),
+                                        &index)};
+    return {why, index};
 }
 
 // ---- what graders ask
@@ -438,6 +538,21 @@ public:
     status shadow(bytes picture, size s, const shadow_settings &how)
     {
         return corbelrush::shadow(picture, s, room(scratch_, picture.size()), room(copy_, picture.size()), how);
+    }
+
+    status blur_planes(bytes planes, size s, const blur_settings &how)
+    {
+        return corbelrush::blur_planes(planes, s, room(scratch_, planes.size()), how);
+    }
+
+    status shadow_planes(bytes planes, size s, const shadow_settings &how)
+    {
+        return corbelrush::shadow_planes(planes, s, room(scratch_, planes.size()), room(copy_, planes.size()), how);
+    }
+
+    result<std::uint64_t> recipes(bytes picture, size s, span<const corbelrush_recipe> list, span<const float> table)
+    {
+        return corbelrush::recipes(picture, s, room(scratch_, picture.size()), room(copy_, picture.size()), list, table);
     }
 
     status plate_job(bytes plate) { return corbelrush::plate_job(plate, room(scratch_, plate.size())); }

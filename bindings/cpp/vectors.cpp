@@ -1,4 +1,4 @@
-// The stored vectors (crates/replay/stdin, on standard input) through the C++ binding; oracle/NOTES.md has their format.
+// The stored vectors (crates/replay/stdin and oracle/lists.txt, on standard input) through the C++ binding; oracle/NOTES.md has their format.
 #include <cstdio>
 #include <cstring>
 #include <initializer_list>
@@ -162,7 +162,7 @@ std::vector<float> weights_of(const vector &v)
     return weights;
 }
 
-// Blur and shadow.
+// Blur and shadow, of a picture and of its planes.
 answer weighed(const vector &v, lent &by, cr::worker *worker)
 {
     const auto made = cr::kernel::make(weights_of(v)), good = cr::kernel::make(std::array{1.0f});
@@ -170,11 +170,34 @@ answer weighed(const vector &v, lent &by, cr::worker *worker)
     const cr::shadow_settings shadow{blur, {v.dx, v.dy}, v.colour, static_cast<cr::composite>(v.composite)};
     lent spare = by;
     lent &used = made ? by : spare;
-    const answer call = v.entry == 1 ? worker ? worker->blur(used.bytes, v.size, blur)
-                                              : cr::blur(used.bytes, v.size, used.scratch, blur)
-                        : worker     ? worker->shadow(used.bytes, v.size, shadow)
-                                     : cr::shadow(used.bytes, v.size, used.scratch, used.copy, shadow);
+    const auto called = [&]() -> cr::status {
+        switch (v.entry) {
+        case 1: return worker ? worker->blur(used.bytes, v.size, blur) : cr::blur(used.bytes, v.size, used.scratch, blur);
+        case 3:
+            return worker ? worker->shadow(used.bytes, v.size, shadow)
+                          : cr::shadow(used.bytes, v.size, used.scratch, used.copy, shadow);
+        case 23:
+            return worker ? worker->blur_planes(used.bytes, v.size, blur)
+                          : cr::blur_planes(used.bytes, v.size, used.scratch, blur);
+        default:
+            return worker ? worker->shadow_planes(used.bytes, v.size, shadow)
+                          : cr::shadow_planes(used.bytes, v.size, used.scratch, used.copy, shadow);
+        }
+    };
+    const answer call = called();
     return refused(made, call, {1, 2, 3}).value_or(call);
+}
+
+// A list of recipes, of 13 words each.
+answer chained(const vector &v, lent &by, cr::worker *worker)
+{
+    std::vector<corbelrush_recipe> list(by.list.size() / 13);
+    static_assert(sizeof(corbelrush_recipe) == 13 * sizeof(std::uint32_t));
+    const std::vector<std::uint32_t> fields(by.list.begin(), by.list.end());
+    if (!list.empty()) std::memcpy(list.data(), fields.data(), list.size() * sizeof(corbelrush_recipe));
+    const auto index = worker ? worker->recipes(by.bytes, v.size, list, weights_of(v))
+                              : cr::recipes(by.bytes, v.size, by.scratch, by.copy, list, weights_of(v));
+    return {index, {*index}};
 }
 
 // The blur in whole numbers, and shares.
@@ -286,7 +309,7 @@ answer filed(const vector &v, lent &by)
 answer call(const vector &v, lent &by, cr::worker *worker)
 {
     switch (v.entry) {
-    case 1: case 3: return weighed(v, by, worker);
+    case 1: case 3: case 23: case 25: return weighed(v, by, worker);
     case 2: return cr::shift(by.bytes, v.size, {v.dx, v.dy});
     case 4: case 5: case 6: case 7: return graded(v, by);
     case 8: case 9: case 10: case 11: case 12: return plated(v, by, worker);
@@ -294,6 +317,10 @@ answer call(const vector &v, lent &by, cr::worker *worker)
     case 15: case 16: return mended(v, by);
     case 17: case 27: case 28: return counted(v, by, worker);
     case 18: case 19: case 20: return summed(v, by);
+    case 21: return cr::to_planes(by.bytes, v.size, by.other);
+    case 22: return cr::from_planes(by.bytes, v.size, by.other);
+    case 24: return cr::shift_planes(by.bytes, v.size, {v.dx, v.dy});
+    case 26: return chained(v, by, worker);
     default: throw std::string("no such entry");
     }
 }

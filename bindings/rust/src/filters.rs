@@ -66,9 +66,20 @@ pub struct Shadow<'a> {
 /// # Ok::<(), Refusal>(())
 /// ```
 pub fn blur(picture: &mut [u8], size: Size, scratch: &mut [u8], how: Blur) -> Result<(), Refusal> {
+    blur_by(sys::corbelrush_blur, picture, size, scratch, how)
+}
+
+/// On a picture or on its planes, as the function says.
+pub(crate) fn blur_by(
+    function: sys::Blur,
+    picture: &mut [u8],
+    size: Size,
+    scratch: &mut [u8],
+    how: Blur,
+) -> Result<(), Refusal> {
     let weights = how.kernel.weights();
     answer(unsafe {
-        sys::corbelrush_blur(
+        function(
             picture.as_mut_ptr(),
             picture.len(),
             size.w,
@@ -127,7 +138,12 @@ pub fn blur_whole(picture: &mut [u8], size: Size, scratch: &mut [u8], how: Whole
 /// # Ok::<(), Refusal>(())
 /// ```
 pub fn shift(picture: &mut [u8], size: Size, dx: f32, dy: f32) -> Result<(), Refusal> {
-    answer(unsafe { sys::corbelrush_shift(picture.as_mut_ptr(), picture.len(), size.w, size.h, dx, dy) })
+    shift_by(sys::corbelrush_shift, picture, size, dx, dy)
+}
+
+/// On a picture or on its planes, as the function says.
+pub(crate) fn shift_by(function: sys::Shift, picture: &mut [u8], size: Size, dx: f32, dy: f32) -> Result<(), Refusal> {
+    answer(unsafe { function(picture.as_mut_ptr(), picture.len(), size.w, size.h, dx, dy) })
 }
 
 /// Draws a picture's drop shadow. `scratch` and `copy` are at least as long; their first 4wh bytes are 0 afterwards.
@@ -146,9 +162,21 @@ pub fn shift(picture: &mut [u8], size: Size, dx: f32, dy: f32) -> Result<(), Ref
 /// # Ok::<(), Refusal>(())
 /// ```
 pub fn shadow(picture: &mut [u8], size: Size, scratch: &mut [u8], copy: &mut [u8], how: Shadow) -> Result<(), Refusal> {
+    shadow_by(sys::corbelrush_shadow, picture, size, scratch, copy, how)
+}
+
+/// On a picture or on its planes, as the function says.
+pub(crate) fn shadow_by(
+    function: sys::Shadow,
+    picture: &mut [u8],
+    size: Size,
+    scratch: &mut [u8],
+    copy: &mut [u8],
+    how: Shadow,
+) -> Result<(), Refusal> {
     let weights = how.blur.kernel.weights();
     answer(unsafe {
-        sys::corbelrush_shadow(
+        function(
             picture.as_mut_ptr(),
             picture.len(),
             size.w,

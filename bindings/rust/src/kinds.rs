@@ -124,6 +124,11 @@ impl Kernel {
     pub fn weights(&self) -> &[f32] {
         self.0.slice()
     }
+
+    /// Its row in the table of a list of recipes: its weights, and zeros after them.
+    pub fn row(&self) -> [f32; crate::MAX_TAPS] {
+        self.0.values
+    }
 }
 
 impl fmt::Debug for Kernel {

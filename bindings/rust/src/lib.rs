@@ -15,7 +15,9 @@ mod filters;
 mod grades;
 mod images;
 mod kinds;
+mod planes;
 mod plates;
+mod recipes;
 mod refusal;
 mod sys;
 mod worker;
@@ -26,9 +28,11 @@ pub use filters::{blur, blur_whole, shadow, shift, Blur, Colour, Shadow, WholeBl
 pub use grades::{check, mend, rebuild, spread, Change, View};
 pub use images::{pam_read, pam_write};
 pub use kinds::{EdgeMode, Kernel, Size, WholeKernel};
+pub use planes::{blur_planes, from_planes, shadow_planes, shift_planes, to_planes};
 pub use plates::{
     plate_add, plate_job, plate_label, plate_picture, plate_start, Label, PlatePicture, PlateVersion, Unit,
 };
+pub use recipes::{recipes, Recipe};
 pub use refusal::{Placed, Refusal};
 pub use worker::Worker;
 

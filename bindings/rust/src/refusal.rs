@@ -66,7 +66,8 @@ pub(crate) fn answer(number: u32) -> Result<(), Refusal> {
     }
 }
 
-/// A refusal, and where: the place of the pixel that [`pam_write`](crate::pam_write) objects to.
+/// A refusal, and where: the place of the pixel that [`pam_write`](crate::pam_write) objects to, or the index of the recipe
+/// that [`recipes`](crate::recipes) objects to.
 #[derive(Clone, Copy, Debug, PartialEq, Eq, Hash)]
 pub struct Placed {
     /// Why.

@@ -1,9 +1,21 @@
 //! The functions of `include/corbelrush.h` as C declares them. Each call's safety is the same: every pointer comes with the
 //! length of its own slice, exclusive references do not overlap, and any other value is taken.
-use crate::{Change, Point};
+use crate::{Change, Point, Recipe};
 
-extern "C" {
-    pub fn corbelrush_blur(
+/// Two functions of the same parameters, and their type.
+macro_rules! alike {
+    ($type:ident: $one:ident $other:ident ($($parameter:ident: $of:ty,)*)) => {
+        pub type $type = unsafe extern "C" fn($($parameter: $of,)*) -> u32;
+
+        extern "C" {
+            pub fn $one($($parameter: $of,)*) -> u32;
+            pub fn $other($($parameter: $of,)*) -> u32;
+        }
+    };
+}
+
+alike! {
+    Blur: corbelrush_blur corbelrush_blur_planes (
         picture: *mut u8,
         picture_len: usize,
         w: u32,
@@ -15,21 +27,22 @@ extern "C" {
         n: u32,
         strength: f32,
         edge: u32,
-    ) -> u32;
-    pub fn corbelrush_blur_whole(
+    )
+}
+
+alike! {
+    Shift: corbelrush_shift corbelrush_shift_planes (
         picture: *mut u8,
         picture_len: usize,
         w: u32,
         h: u32,
-        scratch: *mut u8,
-        scratch_len: usize,
-        numerators: *const u32,
-        numerators_len: usize,
-        n: u32,
-        edge: u32,
-    ) -> u32;
-    pub fn corbelrush_shift(picture: *mut u8, picture_len: usize, w: u32, h: u32, dx: f32, dy: f32) -> u32;
-    pub fn corbelrush_shadow(
+        dx: f32,
+        dy: f32,
+    )
+}
+
+alike! {
+    Shadow: corbelrush_shadow corbelrush_shadow_planes (
         picture: *mut u8,
         picture_len: usize,
         w: u32,
@@ -50,6 +63,47 @@ extern "C" {
         blue: f32,
         alpha: f32,
         composite: u32,
+    )
+}
+
+alike! {
+    Convert: corbelrush_to_planes corbelrush_from_planes (
+        src: *const u8,
+        src_len: usize,
+        w: u32,
+        h: u32,
+        dst: *mut u8,
+        dst_len: usize,
+    )
+}
+
+extern "C" {
+    pub fn corbelrush_recipes(
+        picture: *mut u8,
+        picture_len: usize,
+        w: u32,
+        h: u32,
+        scratch: *mut u8,
+        scratch_len: usize,
+        copy: *mut u8,
+        copy_len: usize,
+        recipes: *const Recipe,
+        count: usize,
+        table: *const f32,
+        weights: usize,
+        index: *mut u64,
+    ) -> u32;
+    pub fn corbelrush_blur_whole(
+        picture: *mut u8,
+        picture_len: usize,
+        w: u32,
+        h: u32,
+        scratch: *mut u8,
+        scratch_len: usize,
+        numerators: *const u32,
+        numerators_len: usize,
+        n: u32,
+        edge: u32,
     ) -> u32;
     pub fn corbelrush_check(
         picture: *const u8,

@@ -1,5 +1,5 @@
 //! Work buffers that are kept between calls.
-use crate::{Blur, Refusal, Shadow, Size, WholeBlur};
+use crate::{Blur, Placed, Recipe, Refusal, Shadow, Size, WholeBlur, MAX_TAPS};
 
 /// Work buffers that grow to the largest picture and are kept, so that a call allocates nothing once they have.
 ///
@@ -49,6 +49,29 @@ impl Worker {
     pub fn shadow(&mut self, picture: &mut [u8], size: Size, how: Shadow) -> Result<(), Refusal> {
         let (scratch, copy) = (room(&mut self.scratch, picture.len()), room(&mut self.copy, picture.len()));
         crate::shadow(picture, size, scratch, copy, how)
+    }
+
+    /// [`blur_planes`](crate::blur_planes). Refusals: 2, 6, 7.
+    pub fn blur_planes(&mut self, planes: &mut [u8], size: Size, how: Blur) -> Result<(), Refusal> {
+        crate::blur_planes(planes, size, room(&mut self.scratch, planes.len()), how)
+    }
+
+    /// [`shadow_planes`](crate::shadow_planes). Refusals: 2, 6, 7, 8.
+    pub fn shadow_planes(&mut self, planes: &mut [u8], size: Size, how: Shadow) -> Result<(), Refusal> {
+        let (scratch, copy) = (room(&mut self.scratch, planes.len()), room(&mut self.copy, planes.len()));
+        crate::shadow_planes(planes, size, scratch, copy, how)
+    }
+
+    /// [`recipes`](crate::recipes). Refusals: 2, 19, 4 to 9.
+    pub fn recipes(
+        &mut self,
+        picture: &mut [u8],
+        size: Size,
+        list: &[Recipe],
+        table: &[[f32; MAX_TAPS]],
+    ) -> Result<(), Placed> {
+        let (scratch, copy) = (room(&mut self.scratch, picture.len()), room(&mut self.copy, picture.len()));
+        crate::recipes(picture, size, scratch, copy, list, table)
     }
 
     /// [`plate_job`](crate::plate_job). Refusal: 10.

@@ -36,6 +36,13 @@ fn order(entry: u32) -> Vec<u32> {
     }
 }
 
+/// A recipe of its 13 words.
+fn recipe(words: &[u64]) -> Recipe {
+    let [operation, kernel, taps, n, edge, composite] = [0, 1, 2, 3, 4, 5].map(|i| words[i] as u32);
+    let [dx, dy, strength, red, green, blue, alpha] = [6, 7, 8, 9, 10, 11, 12].map(|i| f32::from_bits(words[i] as u32));
+    Recipe { operation, kernel, taps, n, edge, composite, dx, dy, strength, red, green, blue, alpha }
+}
+
 fn number(answered: Answered) -> u32 {
     answered.err().map_or(0, Refusal::number)
 }
@@ -56,10 +63,10 @@ impl<'a> Call<'a> {
 
     fn answered(&mut self) -> Answered {
         match self.v.entry {
-            1 | 3 => self.weighed(),
-            2 => {
-                let size = self.size();
-                shift(&mut self.by.bytes, size, self.v.dx, self.v.dy)
+            1 | 3 | 23 | 25 => self.weighed(),
+            2 | 24 => {
+                let (size, move_by) = (self.size(), if self.v.entry == 2 { shift } else { shift_planes });
+                move_by(&mut self.by.bytes, size, self.v.dx, self.v.dy)
             }
             4..=7 => self.graded(),
             8..=12 => self.plated(),
@@ -67,6 +74,11 @@ impl<'a> Call<'a> {
             15 | 16 => self.mended(),
             17 | 27 | 28 => self.counted(),
             18..=20 => self.summed(),
+            21 | 22 => {
+                let (size, convert) = (self.size(), if self.v.entry == 21 { to_planes } else { from_planes });
+                convert(&self.by.bytes, size, &mut self.by.other)
+            }
+            26 => self.chained(),
             entry => panic!("no entry {entry}"),
         }
     }
@@ -96,7 +108,7 @@ impl<'a> Call<'a> {
         answered.map(|value| self.out[0] = value)
     }
 
-    /// Blur and shadow.
+    /// Blur and shadow, on a picture and on planes.
     fn weighed(&mut self) -> Answered {
         let (v, size, edge) = (self.v, self.size(), self.edge());
         let kernel = self.or(Kernel::new(&self.weights()), Kernel::new(&[1.0]).unwrap());
@@ -106,9 +118,27 @@ impl<'a> Call<'a> {
         match (v.entry, &mut self.worker) {
             (1, None) => blur(bytes, size, scratch, how),
             (1, Some(worker)) => worker.blur(bytes, size, how),
-            (_, None) => shadow(bytes, size, scratch, copy, cast),
-            (_, Some(worker)) => worker.shadow(bytes, size, cast),
+            (3, None) => shadow(bytes, size, scratch, copy, cast),
+            (3, Some(worker)) => worker.shadow(bytes, size, cast),
+            (23, None) => blur_planes(bytes, size, scratch, how),
+            (23, Some(worker)) => worker.blur_planes(bytes, size, how),
+            (_, None) => shadow_planes(bytes, size, scratch, copy, cast),
+            (_, Some(worker)) => worker.shadow_planes(bytes, size, cast),
         }
+    }
+
+    /// A list of recipes. A rest of the table that is shorter than a kernel is none.
+    fn chained(&mut self) -> Answered {
+        let (size, weights) = (self.size(), self.weights());
+        let table: Vec<[f32; MAX_TAPS]> = weights.chunks_exact(MAX_TAPS).map(|row| row.try_into().unwrap()).collect();
+        let list: Vec<Recipe> = self.by.list.chunks_exact(13).map(recipe).collect();
+        let Lent { bytes, scratch, copy, .. } = &mut self.by;
+        let answered = match &mut self.worker {
+            None => recipes(bytes, size, scratch, copy, &list, &table),
+            Some(worker) => worker.recipes(bytes, size, &list, &table),
+        };
+        self.out[0] = answered.err().map_or(0, |placed| placed.at);
+        answered.map_err(Refusal::from)
     }
 
     /// Check, view, sample and spread.

@@ -1,4 +1,4 @@
-//! The stored vectors (crates/replay/stdin) through the binding.
+//! The stored vectors (crates/replay/stdin, and oracle/lists.txt for lists of recipes) through the binding.
 mod call;
 mod stored;
 
@@ -18,9 +18,11 @@ fn wanted(v: &Vector, made: &Outcome) -> Outcome {
 
 #[test]
 fn every_vector_through_the_binding() {
-    let text = read_to_string(concat!(env!("CARGO_MANIFEST_DIR"), "/../../crates/replay/stdin")).unwrap();
+    let root = concat!(env!("CARGO_MANIFEST_DIR"), "/../..");
+    let text =
+        ["crates/replay/stdin", "oracle/lists.txt"].map(|file| read_to_string(format!("{root}/{file}")).unwrap());
     let (mut worker, mut entries, mut count) = (Worker::new(), BTreeSet::new(), 0);
-    for line in text.lines() {
+    for line in text.iter().flat_map(|text| text.lines()) {
         let vector = stored::read(line);
         let made = Call::outcome(&vector, None);
         let wanted = wanted(&vector, &made);
