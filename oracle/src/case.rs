@@ -4,7 +4,7 @@ use rule::mend::Change;
 use rule::share::Point;
 use std::fmt;
 
-/// With the number that each has in stored vectors; 21 to 26 are those of planes and recipes.
+/// With the number that each has in stored vectors; 26 is that of recipes.
 #[derive(Clone, Copy, Debug, PartialEq, Eq, PartialOrd, Ord)]
 pub enum Entry {
     Blur = 1,
@@ -27,11 +27,17 @@ pub enum Entry {
     AreaBuild,
     AreaBox,
     AreaUpdate,
+    ToPlanes,
+    FromPlanes,
+    BlurPlanes,
+    ShiftPlanes,
+    ShadowPlanes,
     Share = 27,
     Shares,
 }
 
-pub const ENTRIES: [Entry; 22] = [
+/// In the order in which they came, so that one more leaves the cases that are drawn for those before it.
+pub const ENTRIES: [Entry; 27] = [
     Entry::Blur,
     Entry::Shift,
     Entry::Shadow,
@@ -54,6 +60,11 @@ pub const ENTRIES: [Entry; 22] = [
     Entry::AreaUpdate,
     Entry::Share,
     Entry::Shares,
+    Entry::ToPlanes,
+    Entry::FromPlanes,
+    Entry::BlurPlanes,
+    Entry::ShiftPlanes,
+    Entry::ShadowPlanes,
 ];
 
 /// The entries of the first release.
@@ -146,9 +157,29 @@ impl Case {
         Case { scratch: 0, copy: 0, ..Case::new(entry, 0, 0, picture) }
     }
 
+    /// The entry that does to a picture what this one does to its planes.
+    pub fn on_picture(&self) -> Option<Entry> {
+        match self.entry {
+            Entry::BlurPlanes => Some(Entry::Blur),
+            Entry::ShiftPlanes => Some(Entry::Shift),
+            Entry::ShadowPlanes => Some(Entry::Shadow),
+            _ => None,
+        }
+    }
+
+    /// The entries that lay a picture's planes, or the picture of planes, over another buffer.
+    pub fn converts(&self) -> bool {
+        matches!(self.entry, Entry::ToPlanes | Entry::FromPlanes)
+    }
+
+    /// Of planes or not.
+    pub fn casts(&self) -> bool {
+        matches!(self.entry, Entry::Shadow | Entry::ShadowPlanes)
+    }
+
     /// The entries that blur with an edge rule, n and a kernel of weights.
     pub fn blurs(&self) -> bool {
-        matches!(self.entry, Entry::Blur | Entry::Shadow)
+        self.casts() || matches!(self.entry, Entry::Blur | Entry::BlurPlanes)
     }
 
     /// The same, or with a kernel of numerators.
@@ -186,7 +217,7 @@ impl Case {
     }
 
     pub fn shifts(&self) -> bool {
-        matches!(self.entry, Entry::Shift | Entry::Shadow)
+        self.casts() || matches!(self.entry, Entry::Shift | Entry::ShiftPlanes)
     }
 
     pub fn is_plate(&self) -> bool {
@@ -374,6 +405,14 @@ pub unsafe fn call(library: &Library, case: &Case, parts: Parts) -> (u32, [u64; 
         Entry::AreaBuild => (library.area_build)(p, p_len, w, h, t, t_len),
         Entry::AreaBox => (library.area_box)(t, t_len, w, h, x as u32, y as u32, size[0], size[1], &mut far),
         Entry::AreaUpdate => (library.area_update)(t, t_len, w, h, place, unit as u8, sheet as u8),
+        Entry::ToPlanes => (library.to_planes)(p, p_len, w, h, o, o_len),
+        Entry::FromPlanes => (library.from_planes)(p, p_len, w, h, o, o_len),
+        Entry::BlurPlanes => (library.blur_planes)(p, p_len, w, h, s, s_len, k, k_len, n, strength, edge),
+        Entry::ShiftPlanes => (library.shift_planes)(p, p_len, w, h, dx, dy),
+        Entry::ShadowPlanes => (library.shadow_planes)(
+            p, p_len, w, h, s, s_len, c, c_len, k, k_len, n, edge,
+            dx, dy, strength, red, green, blue, alpha, composite,
+        ),
         Entry::Share => (library.share)(w, h, m, m_len, n, edge, place, case.second_place, &mut far),
         Entry::Shares => (library.shares)(w, h, m, m_len, n, edge, place, q, q_len, &mut far),
     };
@@ -410,7 +449,7 @@ impl fmt::Display for Case {
             write!(f, " dx {:?} dy {:?}", self.dx, self.dy)?;
         }
         match self.entry {
-            Entry::Shadow => write!(f, " colour {:?} composite {}", self.colour, self.composite)?,
+            Entry::Shadow | Entry::ShadowPlanes => write!(f, " colour {:?} composite {}", self.colour, self.composite)?,
             Entry::Sample => write!(f, " edge {} x {} y {}", self.edge, self.x, self.y)?,
             Entry::View => write!(f, " edge {}", self.edge)?,
             Entry::PlatePicture | Entry::PlateLabel => write!(f, " index {}", self.x as u32)?,

@@ -2,6 +2,7 @@
 use crate::case::{run, Case, Entry, Outcome};
 use crate::faults::{self, Faults};
 use crate::library::{Library, RULE};
+use crate::plane_cases;
 use crate::premultiplied;
 use crate::rust;
 use crate::share_cases;
@@ -52,6 +53,7 @@ impl Examiner {
             agree("whole-number blur and float blur", &lawful, &run(self.library, &whole_cases::as_float(case)))?;
             agree("least and greatest", &true, &whole_cases::between(case, &lawful))?;
         }
+        agree("planes and picture", &lawful, &plane_cases::by_picture(self.library, case, &lawful))?;
         agree("shares of a whole", &true, &share_cases::loses_nothing(case, &lawful))?;
         let law = premultiplied::shown(self.library, case, &lawful.picture);
         agree("premultiplied afterwards", &true, &law.is_ok())?;

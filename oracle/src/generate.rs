@@ -5,6 +5,7 @@ use crate::inputs::{self, NOT_FINITE, NO_SHARE, OFFSETS};
 use crate::larger_cases;
 use crate::mend_cases;
 use crate::pam_cases;
+use crate::plane_cases;
 use crate::plate_cases;
 use crate::premultiplied;
 use crate::random::Random;
@@ -59,6 +60,7 @@ pub fn all(amount: Amount, take: Take) {
         premultiplied::all(&mut random, take);
         area_cases::all(&mut random, take);
         share_cases::all(&mut random, take);
+        plane_cases::all(&mut random, take);
     }
     for _ in 0..amount.of(30_000, 900_000) {
         take(any(&mut random));
@@ -234,9 +236,9 @@ fn largest(random: &mut Random, take: Take) {
 /// The refusal numbers of an entry.
 pub fn numbers(entry: Entry) -> &'static [u32] {
     match entry {
-        Entry::Blur => &[1, 2, 3, 4, 5, 6, 7, 9],
-        Entry::Shift => &[1, 2, 7],
-        Entry::Shadow => &[1, 2, 3, 4, 5, 6, 7, 8, 9],
+        Entry::Blur | Entry::BlurPlanes => &[1, 2, 3, 4, 5, 6, 7, 9],
+        Entry::Shift | Entry::ShiftPlanes => &[1, 2, 7],
+        Entry::Shadow | Entry::ShadowPlanes => &[1, 2, 3, 4, 5, 6, 7, 8, 9],
         Entry::Check => &[1, 2],
         Entry::View | Entry::Sample => &[1, 2, 9],
         Entry::Spread => &[4, 6, 11],
@@ -250,7 +252,7 @@ pub fn numbers(entry: Entry) -> &'static [u32] {
         Entry::Mend => &[1, 2, 17],
         Entry::Rebuild => &[1, 2, 18],
         Entry::BlurWhole => &[1, 2, 3, 4, 14, 6, 9],
-        Entry::AreaBuild => &[1, 2, 3],
+        Entry::AreaBuild | Entry::ToPlanes | Entry::FromPlanes => &[1, 2, 3],
         Entry::AreaBox | Entry::AreaUpdate => &[1, 3, 20],
         Entry::Share => &[1, 4, 9, 21, 22, 14],
         Entry::Shares => &[1, 4, 9, 21, 22, 14, 17],
@@ -280,13 +282,14 @@ fn bad_length(random: &mut Random, case: &mut Case) {
 fn short_work(random: &mut Random, case: &mut Case) {
     let needed = match case.entry {
         Entry::PamRead | Entry::PamWrite => return pam_cases::spoil_room(random, case),
+        Entry::ToPlanes | Entry::FromPlanes => return plane_cases::spoil_room(random, case),
         Entry::PlateJob => {
             let bodies = rule::plate::pictures(&case.picture).unwrap_or_default();
             bodies.iter().map(|p| p.length as usize).max().unwrap_or(0)
         }
         _ => rule::refusal::bytes(case.w, case.h).min(1 << 20) as usize,
     };
-    let work = if case.entry == Entry::Shadow && random.one_in(2) { &mut case.copy } else { &mut case.scratch };
+    let work = if case.casts() && random.one_in(2) { &mut case.copy } else { &mut case.scratch };
     *work = needed.saturating_sub(random.pick(&[1, 4, usize::MAX]));
 }
 
@@ -303,7 +306,7 @@ fn bad_weight(random: &mut Random, case: &mut Case) {
 
 fn bad_number(random: &mut Random, case: &mut Case) {
     let bad = random.pick(&NOT_FINITE);
-    match (case.entry, random.below(3)) {
+    match (case.on_picture().unwrap_or(case.entry), random.below(3)) {
         (Entry::Blur, _) | (Entry::Shadow, 0) => case.strength = bad,
         (_, 1) => case.dx = bad,
         _ => case.dy = bad,
@@ -354,6 +357,8 @@ pub fn accepted(random: &mut Random, entry: Entry) -> Case {
         Entry::BlurWhole => return whole_cases::accepted(random),
         Entry::AreaBuild | Entry::AreaBox | Entry::AreaUpdate => return area_cases::accepted(random, entry),
         Entry::Share | Entry::Shares => return share_cases::accepted(random, entry),
+        Entry::ToPlanes | Entry::FromPlanes => return plane_cases::converting(random, entry),
+        Entry::BlurPlanes | Entry::ShiftPlanes | Entry::ShadowPlanes => return plane_cases::accepted(random, entry),
         _ => (),
     }
     let (w, h) = (random.range(1, 6) as u32, random.range(1, 6) as u32);

@@ -1,7 +1,7 @@
 //! The C functions as a table, filled by the linked library or by the rules.
 use rule::mend::{self, Change};
 use rule::share::{self, Point};
-use rule::{area, blur, grading, pam, plate, plate_write, shadow, shift, whole};
+use rule::{area, blur, grading, pam, planes, plate, plate_write, shadow, shift, whole};
 use std::slice;
 
 pub struct Library {
@@ -28,6 +28,11 @@ pub struct Library {
     pub area_update: AreaUpdate,
     pub share: Share,
     pub shares: Shares,
+    pub to_planes: ToPlanes,
+    pub from_planes: FromPlanes,
+    pub blur_planes: BlurPlanes,
+    pub shift_planes: ShiftPlanes,
+    pub shadow_planes: ShadowPlanes,
 }
 
 /// The types of the C functions, and the library's own ones where it is linked.
@@ -108,6 +113,22 @@ functions! {
         w: u32, h: u32, numerators: *const u32, count: usize, n: u32, edge: u32, out_place: u64, list: *mut Point,
         room: usize, points: *mut u64
     );
+    ToPlanes corbelrush_to_planes(
+        src: *const u8, src_len: usize, w: u32, h: u32, dst: *mut u8, dst_len: usize
+    );
+    FromPlanes corbelrush_from_planes(
+        src: *const u8, src_len: usize, w: u32, h: u32, dst: *mut u8, dst_len: usize
+    );
+    BlurPlanes corbelrush_blur_planes(
+        planes: *mut u8, planes_len: usize, w: u32, h: u32, scratch: *mut u8, scratch_len: usize,
+        weights: *const f32, weights_len: usize, n: u32, strength: f32, edge: u32
+    );
+    ShiftPlanes corbelrush_shift_planes(planes: *mut u8, planes_len: usize, w: u32, h: u32, dx: f32, dy: f32);
+    ShadowPlanes corbelrush_shadow_planes(
+        planes: *mut u8, planes_len: usize, w: u32, h: u32, scratch: *mut u8, scratch_len: usize,
+        copy: *mut u8, copy_len: usize, weights: *const f32, weights_len: usize, n: u32, edge: u32,
+        dx: f32, dy: f32, strength: f32, red: f32, green: f32, blue: f32, alpha: f32, composite: u32
+    );
 }
 
 /// The library under test: the linked one, else the rules.
@@ -143,6 +164,11 @@ static LINKED: Library = Library {
     area_update: corbelrush_area_update,
     share: corbelrush_share,
     shares: corbelrush_shares,
+    to_planes: corbelrush_to_planes,
+    from_planes: corbelrush_from_planes,
+    blur_planes: corbelrush_blur_planes,
+    shift_planes: corbelrush_shift_planes,
+    shadow_planes: corbelrush_shadow_planes,
 };
 
 pub static RULE: Library = Library {
@@ -169,6 +195,11 @@ pub static RULE: Library = Library {
     area_update: rule_area_update,
     share: rule_share,
     shares: rule_shares,
+    to_planes: rule_to_planes,
+    from_planes: rule_from_planes,
+    blur_planes: rule_blur_planes,
+    shift_planes: rule_shift_planes,
+    shadow_planes: rule_shadow_planes,
 };
 
 // SAFETY of all below: the caller lends each buffer for the call, with its length, and no two overlap.
@@ -477,4 +508,78 @@ unsafe extern "C" fn rule_shares(
     let number;
     (number, *points) = blur.shares(out_place, written(list, room));
     number
+}
+
+unsafe extern "C" fn rule_to_planes(
+    src: *const u8,
+    src_len: usize,
+    w: u32,
+    h: u32,
+    dst: *mut u8,
+    dst_len: usize,
+) -> u32 {
+    planes::to_planes(read(src, src_len), w, h, written(dst, dst_len))
+}
+
+unsafe extern "C" fn rule_from_planes(
+    src: *const u8,
+    src_len: usize,
+    w: u32,
+    h: u32,
+    dst: *mut u8,
+    dst_len: usize,
+) -> u32 {
+    planes::from_planes(read(src, src_len), w, h, written(dst, dst_len))
+}
+
+unsafe extern "C" fn rule_blur_planes(
+    planes: *mut u8,
+    planes_len: usize,
+    w: u32,
+    h: u32,
+    scratch: *mut u8,
+    scratch_len: usize,
+    weights: *const f32,
+    weights_len: usize,
+    n: u32,
+    strength: f32,
+    edge: u32,
+) -> u32 {
+    let planes = written(planes, planes_len);
+    let scratch = written(scratch, scratch_len);
+    planes::blur_planes(planes, w, h, scratch, read(weights, weights_len), n, strength, edge)
+}
+
+unsafe extern "C" fn rule_shift_planes(planes: *mut u8, planes_len: usize, w: u32, h: u32, dx: f32, dy: f32) -> u32 {
+    planes::shift_planes(written(planes, planes_len), w, h, dx, dy)
+}
+
+unsafe extern "C" fn rule_shadow_planes(
+    planes: *mut u8,
+    planes_len: usize,
+    w: u32,
+    h: u32,
+    scratch: *mut u8,
+    scratch_len: usize,
+    copy: *mut u8,
+    copy_len: usize,
+    weights: *const f32,
+    weights_len: usize,
+    n: u32,
+    edge: u32,
+    dx: f32,
+    dy: f32,
+    strength: f32,
+    red: f32,
+    green: f32,
+    blue: f32,
+    alpha: f32,
+    composite: u32,
+) -> u32 {
+    let planes = written(planes, planes_len);
+    let scratch = written(scratch, scratch_len);
+    let copy = written(copy, copy_len);
+    let weights = read(weights, weights_len);
+    let recipe = shadow::Recipe { dx, dy, strength, colour: [red, green, blue, alpha] };
+    planes::shadow_planes(planes, w, h, scratch, copy, weights, n, edge, recipe, composite != 0)
 }

@@ -14,6 +14,7 @@ mod library;
 mod mend_cases;
 mod pam_cases;
 mod passes;
+mod plane_cases;
 mod plate_cases;
 mod premultiplied;
 mod random;

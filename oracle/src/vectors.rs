@@ -8,6 +8,7 @@ use crate::larger_cases;
 use crate::library::{Library, RULE};
 use crate::mend_cases;
 use crate::pam_cases;
+use crate::plane_cases;
 use crate::plate_cases;
 use crate::random::Random;
 use crate::share_cases;
@@ -129,7 +130,7 @@ fn read(line: &str) -> (Case, Outcome) {
 }
 
 /// Whatever the entry does not take, at its default.
-fn tidy(case: Case) -> Case {
+pub fn tidy(case: Case) -> Case {
     let mut plain = Case { scratch: 0, copy: 0, ..Case::new(case.entry, case.w, case.h, case.picture.clone()) };
     if case.blurs() || case.entry == Entry::Spread {
         (plain.weights, plain.n) = (case.weights.clone(), case.n);
@@ -147,7 +148,9 @@ fn tidy(case: Case) -> Case {
         plain.scratch = case.scratch;
     }
     match case.entry {
-        Entry::Shadow => Case { copy: case.copy, colour: case.colour, composite: case.composite, ..plain },
+        Entry::Shadow | Entry::ShadowPlanes => {
+            Case { copy: case.copy, colour: case.colour, composite: case.composite, ..plain }
+        }
         Entry::Sample | Entry::PlatePicture => Case { x: case.x, y: case.y, ..plain },
         Entry::Spread => Case { w: 0, h: 0, picture: Vec::new(), ..plain },
         _ => plain,
@@ -210,6 +213,7 @@ pub fn cases() -> Vec<Case> {
     later.extend(whole_cases::stored(&mut Random::new(15)));
     later.extend(area_cases::stored(&mut Random::new(17)));
     later.extend(share_cases::stored(&mut Random::new(18)));
+    later.extend(plane_cases::stored(&mut Random::new(21)));
     generate::refusals(&mut Random::new(11), &ENTRIES[9..], 1, 2, &mut |case| later.push(case));
     cases.extend(later.into_iter().filter(is_short));
     cases

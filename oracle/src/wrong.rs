@@ -10,10 +10,14 @@ mod areas;
 mod limits;
 mod mends;
 mod pams;
+mod planes;
 mod plates;
 mod premultiplied;
 mod shares;
 mod wholes;
+
+/// Cases, one after the other.
+type Group = fn(&mut Random, &mut dyn FnMut(Case));
 
 /// What is wrong, and what the program does.
 type Wrong = (&'static str, fn(&Case) -> Outcome);
@@ -45,10 +49,15 @@ fn refused(case: &Case, answer: u32) -> Outcome {
 }
 
 /// The cases of some entries, with their outcomes: a group, and every set of their conditions.
-fn cases(entries: &[Entry], group: fn(&mut Random, &mut dyn FnMut(Case))) -> Vec<(Case, Outcome)> {
+fn cases(entries: &[Entry], group: Group) -> Vec<(Case, Outcome)> {
+    drawn(entries, group, 8)
+}
+
+/// The same, with each set so often.
+fn drawn(entries: &[Entry], group: Group, rounds: u32) -> Vec<(Case, Outcome)> {
     let (mut random, mut cases) = (Random::new(1), Vec::new());
     group(&mut random, &mut |case| cases.push(case));
-    generate::refusals(&mut random, entries, 8, u32::MAX, &mut |case| cases.push(case));
+    generate::refusals(&mut random, entries, rounds, u32::MAX, &mut |case| cases.push(case));
     let with_outcome = |case: Case| {
         let outcome = lawful(&case);
         (case, outcome)

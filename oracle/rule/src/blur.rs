@@ -67,7 +67,30 @@ pub fn blurred<P: Passes<Value = u8>>(passes: &P, n: u32, picture: &[u8], w: usi
     answer
 }
 
-/// Blur: refusals 1 to 7 and 9.
+/// Refusals 1 to 7 and 9.
+#[allow(clippy::too_many_arguments)]
+pub fn refused(
+    picture: &[u8],
+    w: u32,
+    h: u32,
+    scratch: &[u8],
+    weights: &[f32],
+    n: u32,
+    strength: f32,
+    edge: u32,
+) -> u32 {
+    first(&[
+        (1, refusal::sides(w, h)),
+        (2, refusal::length(picture, w, h)),
+        (3, refusal::short(scratch, w, h)),
+        (4, refusal::taps(weights)),
+        (5, refusal::weights(weights)),
+        (6, refusal::decimations(n)),
+        (7, !strength.is_finite()),
+        (9, refusal::edge(edge)),
+    ])
+}
+
 #[allow(clippy::too_many_arguments)]
 pub fn blur(
     picture: &mut [u8],
@@ -79,16 +102,7 @@ pub fn blur(
     strength: f32,
     edge: u32,
 ) -> u32 {
-    let refused = first(&[
-        (1, refusal::sides(w, h)),
-        (2, refusal::length(picture, w, h)),
-        (3, refusal::short(scratch, w, h)),
-        (4, refusal::taps(weights)),
-        (5, refusal::weights(weights)),
-        (6, refusal::decimations(n)),
-        (7, !strength.is_finite()),
-        (9, refusal::edge(edge)),
-    ]);
+    let refused = refused(picture, w, h, scratch, weights, n, strength, edge);
     let (0, Some(edge)) = (refused, Edge::of(edge)) else { return refused };
     if strength > 0.0 {
         let answer = blurred(&Rounding { weights, edge }, n, picture, w as usize, h as usize);

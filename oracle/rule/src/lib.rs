@@ -6,6 +6,7 @@ pub mod exact;
 pub mod grading;
 pub mod mend;
 pub mod pam;
+pub mod planes;
 pub mod plate;
 pub mod plate_write;
 pub mod refusal;

@@ -26,7 +26,7 @@ pub fn premultiply(channel: u8, alpha: u8) -> u8 {
 }
 
 /// The shadow's pixel where the shifted and blurred copy has alpha `a`.
-fn coloured(a: u8, colour: [f32; 4], premultiply: Premultiply) -> [u8; 4] {
+pub fn coloured(a: u8, colour: [f32; 4], premultiply: Premultiply) -> [u8; 4] {
     let [red, green, blue, alpha] = colour;
     let product = share(a) * alpha;
     let alpha = to_channel(product.min(1.0) * 255.0);
@@ -55,7 +55,33 @@ pub fn finished(original: &[u8], copy: &[u8], colour: [f32; 4], premultiply: Pre
     original.chunks_exact(4).zip(copy.chunks_exact(4)).flat_map(pixel).collect()
 }
 
-/// Shadow: refusals 1 to 9.
+/// Refusals 1 to 9.
+#[allow(clippy::too_many_arguments)]
+pub fn refused(
+    picture: &[u8],
+    w: u32,
+    h: u32,
+    scratch: &[u8],
+    copy: &[u8],
+    weights: &[f32],
+    n: u32,
+    edge: u32,
+    recipe: Recipe,
+) -> u32 {
+    let Recipe { dx, dy, strength, colour } = recipe;
+    first(&[
+        (1, refusal::sides(w, h)),
+        (2, refusal::length(picture, w, h)),
+        (3, refusal::short(scratch, w, h) || refusal::short(copy, w, h)),
+        (4, refusal::taps(weights)),
+        (5, refusal::weights(weights)),
+        (6, refusal::decimations(n)),
+        (7, [strength, dx, dy].iter().any(|v| !v.is_finite())),
+        (8, colour.iter().any(|c| refusal::share(*c))),
+        (9, refusal::edge(edge)),
+    ])
+}
+
 #[allow(clippy::too_many_arguments)]
 pub fn shadow(
     picture: &mut [u8],
@@ -69,19 +95,9 @@ pub fn shadow(
     recipe: Recipe,
     composite: bool,
 ) -> u32 {
-    let Recipe { dx, dy, strength, colour } = recipe;
-    let refused = first(&[
-        (1, refusal::sides(w, h)),
-        (2, refusal::length(picture, w, h)),
-        (3, refusal::short(scratch, w, h) || refusal::short(copy, w, h)),
-        (4, refusal::taps(weights)),
-        (5, refusal::weights(weights)),
-        (6, refusal::decimations(n)),
-        (7, [strength, dx, dy].iter().any(|v| !v.is_finite())),
-        (8, colour.iter().any(|c| refusal::share(*c))),
-        (9, refusal::edge(edge)),
-    ]);
+    let refused = refused(picture, w, h, scratch, copy, weights, n, edge, recipe);
     let (0, Some(edge)) = (refused, Edge::of(edge)) else { return refused };
+    let Recipe { dx, dy, strength, colour } = recipe;
     let (width, height) = (w as usize, h as usize);
     let mut moved = shifted(picture, width, height, whole(dx), whole(dy));
     if strength > 0.0 {

@@ -26,13 +26,13 @@ pub fn shifted(picture: &[u8], w: usize, h: usize, dx: i64, dy: i64) -> Vec<u8> 
     answer
 }
 
-/// Shift: refusals 1, 2, 7.
+/// Refusals 1, 2, 7.
+pub fn refused(picture: &[u8], w: u32, h: u32, dx: f32, dy: f32) -> u32 {
+    first(&[(1, refusal::sides(w, h)), (2, refusal::length(picture, w, h)), (7, !dx.is_finite() || !dy.is_finite())])
+}
+
 pub fn shift(picture: &mut [u8], w: u32, h: u32, dx: f32, dy: f32) -> u32 {
-    let refused = first(&[
-        (1, refusal::sides(w, h)),
-        (2, refusal::length(picture, w, h)),
-        (7, !dx.is_finite() || !dy.is_finite()),
-    ]);
+    let refused = refused(picture, w, h, dx, dy);
     if refused == 0 {
         let answer = shifted(picture, w as usize, h as usize, whole(dx), whole(dy));
         picture.copy_from_slice(&answer);
