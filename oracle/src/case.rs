@@ -1,10 +1,11 @@
 //! A case is one call of one entry; an outcome is its answer and all lent bytes afterwards.
 use crate::library::Library;
 use rule::mend::Change;
+use rule::recipes::Step;
 use rule::share::Point;
 use std::fmt;
 
-/// With the number that each has in stored vectors; 26 is that of recipes.
+/// With the number that each has in stored vectors.
 #[derive(Clone, Copy, Debug, PartialEq, Eq, PartialOrd, Ord)]
 pub enum Entry {
     Blur = 1,
@@ -32,12 +33,13 @@ pub enum Entry {
     BlurPlanes,
     ShiftPlanes,
     ShadowPlanes,
-    Share = 27,
+    Recipes,
+    Share,
     Shares,
 }
 
 /// In the order in which they came, so that one more leaves the cases that are drawn for those before it.
-pub const ENTRIES: [Entry; 27] = [
+pub const ENTRIES: [Entry; 28] = [
     Entry::Blur,
     Entry::Shift,
     Entry::Shadow,
@@ -65,6 +67,7 @@ pub const ENTRIES: [Entry; 27] = [
     Entry::BlurPlanes,
     Entry::ShiftPlanes,
     Entry::ShadowPlanes,
+    Entry::Recipes,
 ];
 
 /// The entries of the first release.
@@ -101,7 +104,7 @@ pub struct Case {
     pub used: u64,
     pub place: u64,
     pub second_place: u64,
-    /// A lent list: each entry's fields one after the other.
+    /// A lent list: each entry's fields one after the other; the recipes of a list.
     pub list: Vec<u64>,
     /// A second lent buffer with content.
     pub other: Vec<u8>,
@@ -374,6 +377,7 @@ pub unsafe fn call(library: &Library, case: &Case, parts: Parts) -> (u32, [u64; 
     let (l, l_len) = (parts.list.at.cast::<Change>(), parts.list.length / size_of::<Change>());
     let (t, t_len) = (parts.list.at.cast::<u32>(), parts.list.length / size_of::<u32>());
     let (q, q_len) = (parts.list.at.cast::<Point>(), parts.list.length / size_of::<Point>());
+    let (r, r_len) = (parts.list.at.cast::<Step>(), parts.list.length / size_of::<Step>());
     let (place, size) = (case.place, [case.place as u32, case.second_place as u32]);
     let [red, green, blue, alpha] = case.colour;
     let (k, k_len) = (case.weights.as_ptr(), case.weights.len());
@@ -413,13 +417,16 @@ pub unsafe fn call(library: &Library, case: &Case, parts: Parts) -> (u32, [u64; 
             p, p_len, w, h, s, s_len, c, c_len, k, k_len, n, edge,
             dx, dy, strength, red, green, blue, alpha, composite,
         ),
+        Entry::Recipes => {
+            (library.recipes)(p, p_len, w, h, s, s_len, c, c_len, r, r_len, k, k_len, &mut far)
+        }
         Entry::Share => (library.share)(w, h, m, m_len, n, edge, place, case.second_place, &mut far),
         Entry::Shares => (library.shares)(w, h, m, m_len, n, edge, place, q, q_len, &mut far),
     };
     let numbers = match case.entry {
         Entry::Check => [wide.into(), far, 0, 0],
         Entry::Spread | Entry::PlateStart | Entry::PlateAdd | Entry::Mend | Entry::AreaBox => [far, 0, 0, 0],
-        Entry::Share | Entry::Shares => [far, 0, 0, 0],
+        Entry::Share | Entry::Shares | Entry::Recipes => [far, 0, 0, 0],
         Entry::PlatePicture => [wide.into(), high.into(), far, long],
         Entry::PlateLabel => [wide.into(), page.into(), 0, 0],
         Entry::PamRead => [wide.into(), high.into(), far, 0],
@@ -438,6 +445,10 @@ fn list<T: fmt::Debug>(f: &mut fmt::Formatter, name: &str, values: &[T]) -> fmt:
 impl fmt::Display for Case {
     fn fmt(&self, f: &mut fmt::Formatter) -> fmt::Result {
         write!(f, "{:?} {} by {}", self.entry, self.w, self.h)?;
+        if self.entry == Entry::Recipes {
+            list(f, "table", &self.weights)?;
+            list(f, "recipes", &crate::recipe_cases::steps(self))?;
+        }
         if self.blurs() || self.entry == Entry::Spread {
             list(f, "weights", &self.weights)?;
             write!(f, " n {} strength {:?} edge {}", self.n, self.strength, self.edge)?;

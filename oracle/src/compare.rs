@@ -4,6 +4,7 @@ use crate::faults::{self, Faults};
 use crate::library::{Library, RULE};
 use crate::plane_cases;
 use crate::premultiplied;
+use crate::recipe_cases;
 use crate::rust;
 use crate::share_cases;
 use crate::whole_cases;
@@ -54,6 +55,9 @@ impl Examiner {
             agree("least and greatest", &true, &whole_cases::between(case, &lawful))?;
         }
         agree("planes and picture", &lawful, &plane_cases::by_picture(self.library, case, &lawful))?;
+        if case.entry == Entry::Recipes {
+            agree("list and single calls", &lawful, &recipe_cases::one_by_one(self.library, case))?;
+        }
         agree("shares of a whole", &true, &share_cases::loses_nothing(case, &lawful))?;
         let law = premultiplied::shown(self.library, case, &lawful.picture);
         agree("premultiplied afterwards", &true, &law.is_ok())?;

@@ -9,6 +9,7 @@ use crate::plane_cases;
 use crate::plate_cases;
 use crate::premultiplied;
 use crate::random::Random;
+use crate::recipe_cases;
 use crate::share_cases;
 use crate::whole_cases;
 use rule::{LARGEST_SIDE, MOST_DECIMATIONS, MOST_TAPS};
@@ -61,6 +62,7 @@ pub fn all(amount: Amount, take: Take) {
         area_cases::all(&mut random, take);
         share_cases::all(&mut random, take);
         plane_cases::all(&mut random, take);
+        recipe_cases::all(&mut random, take);
     }
     for _ in 0..amount.of(30_000, 900_000) {
         take(any(&mut random));
@@ -73,7 +75,7 @@ fn any_depth(random: &mut Random) -> u32 {
 }
 
 /// A work buffer at least as long as needed.
-fn longer(random: &mut Random, needed: usize) -> usize {
+pub fn longer(random: &mut Random, needed: usize) -> usize {
     needed + random.pick(&[0, 0, 1, 3, 64])
 }
 
@@ -254,6 +256,7 @@ pub fn numbers(entry: Entry) -> &'static [u32] {
         Entry::BlurWhole => &[1, 2, 3, 4, 14, 6, 9],
         Entry::AreaBuild | Entry::ToPlanes | Entry::FromPlanes => &[1, 2, 3],
         Entry::AreaBox | Entry::AreaUpdate => &[1, 3, 20],
+        Entry::Recipes => &[1, 2, 3, 19, 4, 5, 6, 7, 8, 9],
         Entry::Share => &[1, 4, 9, 21, 22, 14],
         Entry::Shares => &[1, 4, 9, 21, 22, 14, 17],
     }
@@ -289,7 +292,11 @@ fn short_work(random: &mut Random, case: &mut Case) {
         }
         _ => rule::refusal::bytes(case.w, case.h).min(1 << 20) as usize,
     };
-    let work = if case.casts() && random.one_in(2) { &mut case.copy } else { &mut case.scratch };
+    let work = if (case.casts() || case.entry == Entry::Recipes) && random.one_in(2) {
+        &mut case.copy
+    } else {
+        &mut case.scratch
+    };
     *work = needed.saturating_sub(random.pick(&[1, 4, usize::MAX]));
 }
 
@@ -327,6 +334,7 @@ fn spoil(random: &mut Random, case: &mut Case, number: u32) {
     match number {
         1 | 3 | 20 if case.is_area() => area_cases::spoil(random, case, number),
         1 | 17 | 21 | 22 if case.traces() => share_cases::spoil(random, case, number),
+        4.. if case.entry == Entry::Recipes => recipe_cases::spoil(random, case, number),
         1 => bad_sides(random, case),
         2 => bad_length(random, case),
         3 => short_work(random, case),
@@ -357,6 +365,7 @@ pub fn accepted(random: &mut Random, entry: Entry) -> Case {
         Entry::BlurWhole => return whole_cases::accepted(random),
         Entry::AreaBuild | Entry::AreaBox | Entry::AreaUpdate => return area_cases::accepted(random, entry),
         Entry::Share | Entry::Shares => return share_cases::accepted(random, entry),
+        Entry::Recipes => return recipe_cases::accepted(random),
         Entry::ToPlanes | Entry::FromPlanes => return plane_cases::converting(random, entry),
         Entry::BlurPlanes | Entry::ShiftPlanes | Entry::ShadowPlanes => return plane_cases::accepted(random, entry),
         _ => (),

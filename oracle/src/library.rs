@@ -1,5 +1,6 @@
 //! The C functions as a table, filled by the linked library or by the rules.
 use rule::mend::{self, Change};
+use rule::recipes::{self, Step};
 use rule::share::{self, Point};
 use rule::{area, blur, grading, pam, planes, plate, plate_write, shadow, shift, whole};
 use std::slice;
@@ -33,6 +34,7 @@ pub struct Library {
     pub blur_planes: BlurPlanes,
     pub shift_planes: ShiftPlanes,
     pub shadow_planes: ShadowPlanes,
+    pub recipes: Recipes,
 }
 
 /// The types of the C functions, and the library's own ones where it is linked.
@@ -129,6 +131,11 @@ functions! {
         copy: *mut u8, copy_len: usize, weights: *const f32, weights_len: usize, n: u32, edge: u32,
         dx: f32, dy: f32, strength: f32, red: f32, green: f32, blue: f32, alpha: f32, composite: u32
     );
+    Recipes corbelrush_recipes(
+        picture: *mut u8, picture_len: usize, w: u32, h: u32, scratch: *mut u8, scratch_len: usize,
+        copy: *mut u8, copy_len: usize, recipes: *const Step, count: usize, table: *const f32, weights: usize,
+        index: *mut u64
+    );
 }
 
 /// The library under test: the linked one, else the rules.
@@ -169,6 +176,7 @@ static LINKED: Library = Library {
     blur_planes: corbelrush_blur_planes,
     shift_planes: corbelrush_shift_planes,
     shadow_planes: corbelrush_shadow_planes,
+    recipes: corbelrush_recipes,
 };
 
 pub static RULE: Library = Library {
@@ -200,6 +208,7 @@ pub static RULE: Library = Library {
     blur_planes: rule_blur_planes,
     shift_planes: rule_shift_planes,
     shadow_planes: rule_shadow_planes,
+    recipes: rule_recipes,
 };
 
 // SAFETY of all below: the caller lends each buffer for the call, with its length, and no two overlap.
@@ -582,4 +591,27 @@ unsafe extern "C" fn rule_shadow_planes(
     let weights = read(weights, weights_len);
     let recipe = shadow::Recipe { dx, dy, strength, colour: [red, green, blue, alpha] };
     planes::shadow_planes(planes, w, h, scratch, copy, weights, n, edge, recipe, composite != 0)
+}
+
+unsafe extern "C" fn rule_recipes(
+    picture: *mut u8,
+    picture_len: usize,
+    w: u32,
+    h: u32,
+    scratch: *mut u8,
+    scratch_len: usize,
+    copy: *mut u8,
+    copy_len: usize,
+    steps: *const Step,
+    count: usize,
+    table: *const f32,
+    weights: usize,
+    index: *mut u64,
+) -> u32 {
+    let picture = written(picture, picture_len);
+    let scratch = written(scratch, scratch_len);
+    let copy = written(copy, copy_len);
+    let number;
+    (number, *index) = recipes::recipes(picture, w, h, scratch, copy, read(steps, count), read(table, weights));
+    number
 }

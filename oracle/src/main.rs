@@ -18,6 +18,7 @@ mod plane_cases;
 mod plate_cases;
 mod premultiplied;
 mod random;
+mod recipe_cases;
 mod rust;
 mod share_cases;
 mod shrink;
@@ -91,8 +92,13 @@ fn compare_all(amount: Amount) -> bool {
     let begun = Instant::now();
     println!("library: {}; overflow checks: {}", library::under_test().name, rust::checks_overflow());
     let good = compare_cases(amount) && compare_passes(amount) && compare_areas(amount) && compare_shares(amount);
+    let good = good && vectors::replay(library::under_test(), vectors::LISTS);
     println!("seconds {:.1}", begun.elapsed().as_secs_f64());
     good
+}
+
+fn replay_all() -> bool {
+    [vectors::STORED, vectors::LISTS].map(|file| vectors::replay(library::under_test(), file)) == [true; 2]
 }
 
 /// Runs a command that only prints.
@@ -115,9 +121,9 @@ fn main() -> ExitCode {
         ["quick"] => compare_all(Amount::Quick),
         ["full"] => compare_all(Amount::Full),
         ["classes"] => shown(smallest::print),
-        ["vectors"] => vectors::store(vectors::STORED),
-        ["vectors", file] => vectors::store(file),
-        ["replay"] => vectors::replay(library::under_test(), vectors::STORED),
+        ["vectors"] => vectors::store_all(),
+        ["vectors", file] => vectors::store(file, vectors::cases()),
+        ["replay"] => replay_all(),
         ["replay", file] => vectors::replay(library::under_test(), file),
         ["distance"] => distance::print(60_000),
         ["attain"] => shown(distance::attain),

@@ -9,7 +9,7 @@ use rule::grading::exceeds;
 use rule::MOST_TAPS;
 
 /// The entries that the law is about.
-pub const KEEPING: [Entry; 4] = [Entry::Blur, Entry::Shift, Entry::Shadow, Entry::BlurWhole];
+pub const KEEPING: [Entry; 5] = [Entry::Blur, Entry::Shift, Entry::Shadow, Entry::BlurWhole, Entry::Recipes];
 
 /// What a case shows: the law kept, or that a picture which exceeds before may exceed afterwards.
 pub const ROWS: [&str; 2] = ["premultiplied kept", "exceeds before and after"];
@@ -109,5 +109,6 @@ pub fn counterexamples() -> Vec<Case> {
     let shift = Case { entry: Entry::Shift, weights: Vec::new(), dx: 1.0, ..plain.clone() };
     let shadow = Case { entry: Entry::Shadow, composite: 1, ..plain.clone() };
     let whole = Case { entry: Entry::BlurWhole, weights: Vec::new(), numerators: vec![65536], ..plain.clone() };
-    vec![plain, shift, shadow, whole]
+    let list = Case { entry: Entry::Recipes, weights: Vec::new(), ..plain.clone() };
+    vec![plain, shift, shadow, whole, list]
 }

@@ -1,5 +1,6 @@
 //! The smallest input that still shows something, by greedy steps.
 use crate::case::{Case, Entry};
+use crate::recipe_cases;
 
 /// The picture without one column.
 fn without_column(case: &Case, gone: u32) -> Case {
@@ -162,8 +163,9 @@ fn later(case: &Case) -> Vec<Case> {
         other
     });
     simpler.extend(shorter.into_iter().chain(dark).map(|other| Case { other, ..case.clone() }));
-    let entries = case.list.len() / 2;
-    let fewer = [0, entries / 2, entries.saturating_sub(1)].map(|count| case.list[..2 * count].to_vec());
+    let fields = if case.entry == Entry::Recipes { recipe_cases::WORDS } else { 2 };
+    let entries = case.list.len() / fields;
+    let fewer = [0, entries / 2, entries.saturating_sub(1)].map(|count| case.list[..fields * count].to_vec());
     simpler.extend(fewer.map(|list| Case { list, ..case.clone() }));
     simpler.push(Case { list: case.list.iter().map(|word| word / 2).collect(), ..case.clone() });
     simpler.push(Case { used: case.used / 2, ..case.clone() });

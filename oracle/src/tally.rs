@@ -3,6 +3,7 @@ use crate::case::{Case, Entry, ENTRIES};
 use crate::compare::Seen;
 use crate::generate::numbers;
 use crate::premultiplied;
+use crate::recipe_cases;
 use filters::{Class, CLASSES};
 use std::collections::BTreeMap;
 
@@ -60,6 +61,9 @@ impl Tally {
         if seen.classes.contains(&Class::Flooring) {
             self.add(flooring(case.composite != 0), entry);
         }
+        if entry == Entry::Recipes {
+            recipe_cases::rows(case, answer).into_iter().for_each(|row| self.add(row.into(), entry));
+        }
         if !case.is_plate() && !matches!(entry, Entry::Spread | Entry::PamRead) {
             self.add(format!("size {}", band(case)), entry);
         }
@@ -87,9 +91,8 @@ impl Tally {
             let unseen = [0].iter().chain(refusals).filter(|answer| self.count(&row(**answer), entry) == 0);
             rows.extend(unseen.map(|answer| format!("{entry:?} {}", row(*answer))));
         }
-        for (entry, row) in
-            premultiplied::KEEPING.into_iter().flat_map(|entry| premultiplied::ROWS.map(|row| (entry, row)))
-        {
+        let kept = premultiplied::KEEPING.into_iter().flat_map(|entry| premultiplied::ROWS.map(|row| (entry, row)));
+        for (entry, row) in kept.chain(recipe_cases::ROWS.map(|row| (Entry::Recipes, row))) {
             if self.count(row, entry) == 0 {
                 rows.push(format!("{entry:?} {row}"));
             }

@@ -11,11 +11,15 @@ use crate::pam_cases;
 use crate::plane_cases;
 use crate::plate_cases;
 use crate::random::Random;
+use crate::recipe_cases;
 use crate::share_cases;
 use crate::whole_cases;
 
 /// Where the vectors are stored: the input of the program that replays them.
 pub const STORED: &str = concat!(env!("CARGO_MANIFEST_DIR"), "/../crates/replay/stdin");
+
+/// Where those of lists of recipes are, which the proved program does not run: NOTES.md says why.
+pub const LISTS: &str = concat!(env!("CARGO_MANIFEST_DIR"), "/lists.txt");
 
 /// How many leading bytes of a work buffer are zero; the others must be as before.
 fn zeroed(buffer: &[u8]) -> usize {
@@ -214,6 +218,7 @@ pub fn cases() -> Vec<Case> {
     later.extend(area_cases::stored(&mut Random::new(17)));
     later.extend(share_cases::stored(&mut Random::new(18)));
     later.extend(plane_cases::stored(&mut Random::new(21)));
+    later.extend(recipe_cases::stored(&mut Random::new(22)));
     generate::refusals(&mut Random::new(11), &ENTRIES[9..], 1, 2, &mut |case| later.push(case));
     cases.extend(later.into_iter().filter(is_short));
     cases
@@ -270,10 +275,16 @@ fn is_short(case: &Case) -> bool {
     [case.picture.len(), case.other.len(), case.scratch, case.copy].iter().all(|length| *length <= 512) && numbers < 900
 }
 
-/// Writes the vectors; each was compared with the Rust first.
-pub fn store(file: &str) -> bool {
+/// Writes all vectors, those of lists to a file of their own.
+pub fn store_all() -> bool {
+    let is_list = |case: &Case| case.entry == Entry::Recipes;
+    let (lists, others) = cases().into_iter().partition(is_list);
+    store(STORED, others) && store(LISTS, lists)
+}
+
+/// Writes vectors; each was compared with the Rust first.
+pub fn store(file: &str, cases: Vec<Case>) -> bool {
     let mut examiner = Examiner::new(&RULE);
-    let cases = cases();
     let agree = cases.iter().all(|case| examiner.examine(case, true).is_ok());
     let text: String = cases.iter().map(|case| write(case, &run(&RULE, case))).collect();
     let back = text.lines().map(read).zip(&cases).all(|((_, outcome), case)| outcome == run(&RULE, case));

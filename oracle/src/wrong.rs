@@ -13,6 +13,7 @@ mod pams;
 mod planes;
 mod plates;
 mod premultiplied;
+mod recipes;
 mod shares;
 mod wholes;
 

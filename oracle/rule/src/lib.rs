@@ -9,6 +9,7 @@ pub mod pam;
 pub mod planes;
 pub mod plate;
 pub mod plate_write;
+pub mod recipes;
 pub mod refusal;
 pub mod scheme;
 pub mod shadow;
