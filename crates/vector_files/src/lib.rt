@@ -1,4 +1,5 @@
-// The functions that are lent two buffers with content: a plate and a picture for it, or a picture and its file.
+// The functions that are lent two buffers with content: a plate and a picture for it, a picture and its file, or a picture and
+// its planes.
 use face_files::images;
 use face_files::plates;
 use vector_parts::buffers;
@@ -47,11 +48,25 @@ fn pam_write(v: &[u64], picture: &[u8], file: &mut [u8]) -> Reply {
     replies::two(number, written, place)
 }
 
+fn to_planes(v: &[u64], picture: &[u8], planes: &mut [u8]) -> Reply {
+    let w = head::word(v, 1);
+    let h = head::word(v, 2);
+    replies::plain(face_planes::corbelrush_to_planes(picture, w, h, planes))
+}
+
+fn from_planes(v: &[u64], planes: &[u8], picture: &mut [u8]) -> Reply {
+    let w = head::word(v, 1);
+    let h = head::word(v, 2);
+    replies::plain(face_planes::corbelrush_from_planes(planes, w, h, picture))
+}
+
 fn call(v: &[u64], bytes: &mut [u8], other: &mut [u8]) -> Reply {
     match head::number(v, 0) {
         11 => plate_add(v, bytes, other),
         13 => pam_read(bytes, other),
-        _ => pam_write(v, bytes, other),
+        14 => pam_write(v, bytes, other),
+        21 => to_planes(v, bytes, other),
+        _ => from_planes(v, bytes, other),
     }
 }
 

@@ -44,6 +44,51 @@ fn shadow(
     ))
 }
 
+fn blur_planes(v: &[u64], planes: &mut [u8], scratch: &mut [u8], weights: &[f32]) -> Reply {
+    let w = head::word(v, 1);
+    let h = head::word(v, 2);
+    let n = head::word(v, 3);
+    let edge = head::word(v, 4);
+    let strength = head::float(v, 5);
+    replies::plain(face_planes::corbelrush_blur_planes(
+        planes,
+        w,
+        h,
+        scratch,
+        weights,
+        n,
+        strength,
+        edge,
+    ))
+}
+
+fn shadow_planes(
+    v: &[u64],
+    planes: &mut [u8],
+    scratch: &mut [u8],
+    copy: &mut [u8],
+    weights: &[f32],
+) -> Reply {
+    replies::plain(face_planes::corbelrush_shadow_planes(
+        planes,
+        head::word(v, 1),
+        head::word(v, 2),
+        scratch,
+        copy,
+        weights,
+        head::word(v, 3),
+        head::word(v, 4),
+        head::float(v, 6),
+        head::float(v, 7),
+        head::float(v, 5),
+        head::float(v, 8),
+        head::float(v, 9),
+        head::float(v, 10),
+        head::float(v, 11),
+        head::word(v, 12),
+    ))
+}
+
 fn plate_job(plate: &mut [u8], scratch: &mut [u8]) -> Reply {
     replies::plain(plates::corbelrush_plate_job(plate, scratch))
 }
@@ -58,6 +103,8 @@ fn call(
     match head::number(v, 0) {
         1 => blur(v, picture, scratch, weights),
         3 => shadow(v, picture, scratch, copy, weights),
+        23 => blur_planes(v, picture, scratch, weights),
+        25 => shadow_planes(v, picture, scratch, copy, weights),
         _ => plate_job(picture, scratch),
     }
 }

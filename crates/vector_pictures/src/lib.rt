@@ -1,4 +1,4 @@
-// The functions that are lent a picture or a plate, and no other buffer.
+// The functions that are lent a picture, its planes or a plate, and no other buffer.
 use face_files::plates;
 use face_filters::filters;
 use face_grades::grades;
@@ -20,6 +20,14 @@ fn shift(v: &[u64], picture: &mut [u8]) -> Reply {
     let dx = head::float(v, 6);
     let dy = head::float(v, 7);
     replies::plain(filters::corbelrush_shift(picture, w, h, dx, dy))
+}
+
+fn shift_planes(v: &[u64], planes: &mut [u8]) -> Reply {
+    let w = head::word(v, 1);
+    let h = head::word(v, 2);
+    let dx = head::float(v, 6);
+    let dy = head::float(v, 7);
+    replies::plain(face_planes::corbelrush_shift_planes(planes, w, h, dx, dy))
 }
 
 fn check(v: &[u64], picture: &[u8]) -> Reply {
@@ -93,7 +101,8 @@ fn call(v: &[u64], picture: &mut [u8]) -> Reply {
         6 => sample(v, picture),
         8 => plate_picture(v, picture),
         10 => plate_start(v, picture),
-        _ => plate_label(v, picture),
+        12 => plate_label(v, picture),
+        _ => shift_planes(v, picture),
     }
 }
 

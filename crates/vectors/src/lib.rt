@@ -11,10 +11,10 @@ pub fn agrees(v: &[u64]) -> bool {
         return false;
     }
     match head::number(v, 0) {
-        1 | 3 | 9 => vector_filters::agrees(v),
-        2 | 4..=6 | 8 | 10 | 12 => vector_pictures::agrees(v),
+        1 | 3 | 9 | 23 | 25 => vector_filters::agrees(v),
+        2 | 4..=6 | 8 | 10 | 12 | 24 => vector_pictures::agrees(v),
         7 => kernels::agrees(v),
-        11 | 13 | 14 => vector_files::agrees(v),
+        11 | 13 | 14 | 21 | 22 => vector_files::agrees(v),
         15 | 16 => vector_lists::agrees(v),
         17 => vector_wholes::agrees(v),
         18..=20 => vector_areas::agrees(v),
