@@ -19,13 +19,15 @@ use Rattle.plate_format.specs.declared.Entry.{Entry}
 use Rattle.plate_format.proofs.Rules.{plate-tabled, plate-entry}
 use Rattle.plate_format.proofs.Table.{entry-room, whole-small, same-version, same-count, same-entry}
 use Rattle.plate.specs.Lookup.{Beside}
-use Rattle.plate_write.specs.Added.{newEntry, further, entryAfter, added, lengthAfter}
-use Rattle.plate_write.specs.Outcome.{inUse}
-use Rattle.plate_write.specs.Steps.{laidAt, Retabling, headAfter, Adding}
+use Rattle.plate_table.specs.Table.{further, entryAfter, headAfter}
+use Rattle.plate_table.specs.Steps.{laidAt, Retabling}
+use Rattle.plate_table.proofs.Laid.{laid-first, laid-length, laid-below, laid-next, laid-ahead, laid-copied, laid-part}
+use Rattle.plate_table.proofs.Retabled.{table-same}
+use Rattle.plate_room.specs.Room.{newEntry, lengthAfter, inUse}
+use Rattle.plate_room.proofs.Room.{plate-small, Roomy, roomy}
+use Rattle.plate_write.specs.Added.{added}
+use Rattle.plate_write.specs.Steps.{Adding}
 use Rattle.plate_write.proofs.Head.{first-is, head-long, added-is}
-use Rattle.plate_write.proofs.Laid.{laid-first, laid-length, laid-below, laid-next, laid-ahead, laid-copied, laid-part}
-use Rattle.plate_write.proofs.Retabled.{table-same}
-use Rattle.plate_write.proofs.Room.{plate-small, Roomy, roomy}
 
 module _ {buffer : List ℕ} {used w h unit : ℕ} {picture : List ℕ} (ready : Adding buffer used w h unit picture) where
   abbrev file : List ℕ

@@ -17,9 +17,10 @@ use Rattle.plate_format.specs.declared.Entry.{Entry}
 use Rattle.plate_format.proofs.Rules.{rules, wide-is-long, offset-up, plate-entry}
 use Rattle.plate_format.proofs.Written.{Apt, version-read, count-read, entry-read}
 use Rattle.plate.specs.Lookup.{Beside}
-use Rattle.plate_write.specs.Steps.{headAfter}
+use Rattle.plate_table.specs.Table.{headAfter, further, entryAfter}
+use Rattle.plate_room.specs.Room.{given, newEntry, lengthAfter}
+use Rattle.plate_write.specs.Added.{added}
 use Rattle.plate_write.proofs.Head.{head-long, added-is}
-use Rattle.plate_write.specs.Added.{further, given, newEntry, entryAfter, added, lengthAfter}
 
 -- a test that holds at each number below n
 all-below : (f : ℕ → Bool) (n : ℕ) → ((i : ℕ) → i < n → f i ≡ true) → allBelow n f ≡ true

@@ -10,8 +10,9 @@ use Rattle.plate_format.specs.Written.{headerBytes, tableOf, plateOf}
 use Rattle.plate_format.specs.declared.Entry.{Entry}
 use Rattle.plate_format.proofs.Written.{length-header, length-table}
 use Rattle.plate.specs.Lookup.{Beside}
-use Rattle.plate_write.specs.Added.{newEntry, entryAfter, added}
-use Rattle.plate_write.specs.Steps.{headAfter}
+use Rattle.plate_table.specs.Table.{entryAfter, headAfter}
+use Rattle.plate_room.specs.Room.{newEntry}
+use Rattle.plate_write.specs.Added.{added}
 
 -- where the bodies start
 pub first-is : (file : List ℕ) → bodyOffset file 0 ≡ 4 + count file * entrySize (version file)

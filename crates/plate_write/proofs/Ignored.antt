@@ -8,8 +8,9 @@ use denote.Triple.Clauses.{AtExit}
 use denote.Ref.{now}
 use Rattle.plate_format.specs.Format.{version, labelled, wrongUnit}
 use Rattle.plate.specs.Lookup.{Beside, beside}
-use Rattle.plate_write.specs.Added.{given, added}
-use Rattle.plate_write.specs.Outcome.{inUse, noPlate, addOutcome, adds}
+use Rattle.plate_room.specs.Room.{given, inUse, noPlate}
+use Rattle.plate_write.specs.Added.{added}
+use Rattle.plate_write.specs.Outcome.{addOutcome, adds}
 use Rattle.plate_write.specs.declared.Added.{Added}
 use Rattle.plate_write.proofs.plate_add.Reads as add
 use Rattle.plate_write.proofs.plate_add.Kinds as kinds

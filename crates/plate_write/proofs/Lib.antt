@@ -1,8 +1,5 @@
 -- Laws of writing plates.
-pub mod Laid
-pub mod Room
 pub mod Settle
-pub mod Retabled
 pub mod Head
 pub mod Appended
 pub mod Back

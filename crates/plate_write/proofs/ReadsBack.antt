@@ -17,15 +17,16 @@ use Rattle.plate_format.proofs.Written.{length-header}
 use Rattle.plate.specs.Lookup.{pictureOf, lookedUp, answers, Beside, beside, labelledUpTo, labelledUp}
 use Rattle.plate.specs.declared.Lookup.{Lookup}
 use Rattle.plate.proofs.Settle.{listed, there}
+use Rattle.plate_room.specs.Room.{inUse}
+use Rattle.plate_room.proofs.Room.{roomy}
 use Rattle.plate_write.specs.Added.{emptyPlate, added}
-use Rattle.plate_write.specs.Outcome.{Grown, grown, inUse}
+use Rattle.plate_write.specs.Outcome.{Grown, grown}
 use Rattle.plate_write.specs.Steps.{Adding}
 use Rattle.plate_write.specs.ReadsBack.{movedOn, lastAdded, ReadsBack}
 use Rattle.plate_write.specs.declared.Added.the-variants.{InUse}
 use Rattle.plate_write.specs.declared.Started.the-variants.{Empty}
 use Rattle.plate_write.proofs.Back.{Addable, version-kept, count-more, old-entry-is, new-entry-is, offset-is, last, length-added, old-body, new-body, still}
 use Rattle.plate_write.proofs.Empty.{empty-version, empty-count, empty-plate}
-use Rattle.plate_write.proofs.Room.{roomy}
 use Rattle.plate_write.proofs.Settle.{start-accepted, add-accepted}
 use Rattle.plate.proofs.find_picture.Reads as find
 use Rattle.plate.proofs.find_picture.Kinds as find-kinds

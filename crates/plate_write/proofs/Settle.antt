@@ -1,22 +1,23 @@
 -- Laws of what starting and adding answer in each case of their checks.
 use mathlib.Core.Path.{_≡_, refl}
-use mathlib.Core.Bool.{true, false, not, _||_}
+use mathlib.Core.Bool.{true, false}
 use mathlib.Core.List.{List}
-use Prim.Native.Nat.{ℕ, _≤_}
+use Prim.Native.Nat.{ℕ}
 use native.Mathlib.Omega.{arith}
 use lib.Dec.{ltb}
 use lib.ListN.{length}
-use borrow.Author.Tests.{ltb-false, not-false}
+use borrow.Author.Tests.{not-false}
 use Rattle.picture.specs.Answer.{answered, settled}
 use Rattle.picture.specs.Planes.{laid}
 use Rattle.picture.specs.Refusal.{firstElse, firstOf, wrongSides, wrongLength}
 use Rattle.picture.proofs.Conditions.{each-passes, right-length}
 use Rattle.picture.proofs.Settled.{read}
-use Rattle.picture.proofs.Tests.{neither}
-use Rattle.plate_format.specs.Format.{version, known, wrongUnit, isPlate}
+use Rattle.plate_format.specs.Format.{known}
 use Rattle.plate.specs.Lookup.{Beside}
-use Rattle.plate_write.specs.Added.{emptyPlate, added, lengthAfter, noRoom}
-use Rattle.plate_write.specs.Outcome.{Grown, grown, inUse, noPlate, startChecks, startOutcome, addChecks, addOutcome}
+use Rattle.plate_room.specs.Room.{lengthAfter, noRoom, inUse, noPlate}
+use Rattle.plate_room.proofs.Room.{in-plate}
+use Rattle.plate_write.specs.Added.{emptyPlate, added}
+use Rattle.plate_write.specs.Outcome.{Grown, grown, startChecks, startOutcome, addChecks, addOutcome}
 use Rattle.plate_write.specs.Steps.{Adding}
 
 module _ (buffer : List ℕ) (v : ℕ) where
@@ -64,21 +65,6 @@ module _ (buffer : List ℕ) (used : ℕ) (picture : List ℕ) (w h : ℕ) (labe
             answered 0 (grown (laid (added (inUse buffer used) w h label picture) buffer) (lengthAfter (inUse buffer used) w h)) ≡ addOutcome buffer used picture w h label
         unfolding addOutcome firstOf firstElse settled
         add-done r = rw (p, s, l, r)
-
--- what check 10 leaves: the stretch lies within the buffer, it is a plate, and the unit is one of its version's
-pub record InPlate (buffer : List ℕ) (used unit : ℕ) : Type 0 where
-  pub inside : used ≤ length buffer
-  pub is-plate : isPlate (inUse buffer used) ≡ true
-  pub named : wrongUnit (version (inUse buffer used)) unit ≡ false
-
-pub in-plate : (buffer : List ℕ) (used unit : ℕ) → noPlate buffer used unit ≡ false → InPlate buffer used unit
-unfolding noPlate
-in-plate buffer used unit e =
-    let plate = isPlate (inUse buffer used) in
-    let wrong = wrongUnit (version (inUse buffer used)) unit in
-    let n = neither (ltb (length buffer) used) (not plate || wrong) e in
-    let m = neither (not plate) wrong (n .1) in
-    record { inside = ltb-false (length buffer) used (n .0); is-plate = not-false plate (m .0); named = m .1 }
 
 -- a call that answers 0 passed every check, and leaves the plate with one picture more
 pub record Accepted (buffer : List ℕ) (used : ℕ) (picture : List ℕ) (w h : ℕ) (label : Beside) (left : Grown) : Type 0 where

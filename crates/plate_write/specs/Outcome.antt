@@ -1,15 +1,16 @@
 -- What starting a plate and adding to one answer and leave: the number, the buffer, and the length in use.
-use mathlib.Core.Bool.{Bool, not, _||_}
+use mathlib.Core.Bool.{not}
 use mathlib.Core.List.{List, [], _∷_, _++_}
 use Prim.Native.Nat.{ℕ}
 use lib.Dec.{ltb}
-use lib.ListN.{length, take}
+use lib.ListN.{length}
 use Rattle.picture.specs.Answer.{Answer, answered, settled}
 use Rattle.picture.specs.Planes.{laid}
 use Rattle.picture.specs.Refusal.{Check, check, firstOf, pictureChecks}
-use Rattle.plate_format.specs.Format.{version, known, wrongUnit, isPlate}
+use Rattle.plate_format.specs.Format.{known}
 use Rattle.plate.specs.Lookup.{Beside}
-use Rattle.plate_write.specs.Added.{emptyPlate, added, lengthAfter, noRoom}
+use Rattle.plate_room.specs.Room.{inUse, noPlate, lengthAfter, noRoom}
+use Rattle.plate_write.specs.Added.{emptyPlate, added}
 use Rattle.plate_write.specs.declared.StartRefusal.{StartRefusal}
 use Rattle.plate_write.specs.declared.StartRefusal.the-variants.{UnknownVersion, NoHeaderRoom}
 use Rattle.plate_write.specs.declared.Started.{Started}
@@ -27,10 +28,6 @@ pub record Grown : Type 0 where
 abbrev pub grown : List ℕ → ℕ → Grown
 grown buffer used = record { buffer = buffer; used = used }
 
--- the stretch of the buffer that the plate rules are read on
-abbrev pub inUse : List ℕ → ℕ → List ℕ
-inUse buffer used = take used buffer
-
 -- starting a plate: 10, then 13
 abbrev pub startChecks : ℕ → ℕ → List Check
 startChecks room v = check 10 (not (known v)) ∷ check 13 (ltb room 4) ∷ []
@@ -38,11 +35,6 @@ startChecks room v = check 10 (not (known v)) ∷ check 13 (ltb room 4) ∷ []
 -- the first refusal, or a plate of no pictures at the buffer's start; the bytes past it stay
 unfoldable pub startOutcome : List ℕ → ℕ → Answer Grown
 startOutcome buffer v = settled (firstOf (startChecks (length buffer) v)) (grown buffer 0) (grown (laid (emptyPlate v) buffer) 4)
-
--- 10: the length in use lies beyond the buffer, that stretch is no plate, or the unit is none of its version's
-unfoldable pub noPlate : List ℕ → ℕ → ℕ → Bool
-noPlate buffer used unit =
-    ltb (length buffer) used || (not (isPlate (inUse buffer used)) || wrongUnit (version (inUse buffer used)) unit)
 
 -- adding a picture: 10, then 1 and 2, then 13
 abbrev pub addChecks : List ℕ → ℕ → ℕ → ℕ → ℕ → ℕ → List Check

@@ -8,7 +8,7 @@ use Rattle.picture.specs.Answer.{Answer, answered}
 use Rattle.picture.specs.Planes.{bytesOf}
 use Rattle.plate_format.specs.Format.{version, count, entrySize, isPlate}
 use Rattle.plate.specs.Lookup.{Picture, lookedUp, Beside, beside, labelledUp}
-use Rattle.plate_write.specs.Added.{given}
+use Rattle.plate_room.specs.Room.{given}
 
 -- what a lookup answers, s bytes further on
 abbrev pub movedOn : ℕ → Answer Picture → Answer Picture
