@@ -1,0 +1,73 @@
+"""The module beside include/corbelrush.h: every function that it declares is here with the same parameters, and each constant."""
+import os
+import re
+import unittest
+
+import corbelrush
+from corbelrush import _library
+
+ROOT = os.path.dirname(os.path.dirname(os.path.dirname(os.path.dirname(os.path.abspath(__file__)))))
+TYPES = {'uint8_t': 'u8', 'uint16_t': 'u16', 'uint32_t': 'u32', 'uint64_t': 'u64', 'int32_t': 'i32', 'float': 'f32'}
+
+
+def header():
+    with open(os.path.join(ROOT, 'include', 'corbelrush.h')) as file:
+        return re.sub(r'/\*.*?\*/', '', file.read(), flags=re.DOTALL)
+
+
+def declared():
+    """Each function's parameters: pointers as &, * or > with a type, numbers by their type."""
+    for name, inside in re.findall(r'\buint32_t\s+corbelrush_(\w+)\(([^)]*)\)', header()):
+        given = [re.sub(r'\s+', ' ', parameter.strip()) for parameter in inside.split(',')]
+        yield name, list(kinds(given))
+
+
+def kinds(given):
+    for at, parameter in enumerate(given):
+        if parameter.startswith('size_t'):
+            continue
+        lent = at + 1 < len(given) and given[at + 1].startswith('size_t')
+        word = parameter.replace('const ', '').split(' ')[0]
+        if '*' not in parameter:
+            yield TYPES[word]
+        elif lent:
+            yield '*' if parameter.startswith('const ') else '&'
+        else:
+            yield '>' + TYPES[word]
+
+
+def bound(name):
+    for parameter in _library.parameters(name):
+        yield parameter.kind if parameter.kind in '&*' else (parameter.kind + parameter.type).lstrip(':')
+
+
+class Header(unittest.TestCase):
+    def test_every_declared_function(self):
+        found = dict(declared())
+        self.assertGreaterEqual(len(found), 22)
+        for name, wanted in found.items():
+            with self.subTest(function=name):
+                self.assertEqual(list(bound(name)), wanted)
+                self.assertTrue(callable(getattr(corbelrush, name)))
+
+    def test_declared_is_in_the_library(self):
+        self.assertEqual(set(dict(declared())) & set(corbelrush.missing()), set())
+
+    def test_what_is_missing_is_one_of_six(self):
+        arriving = {'to_planes', 'from_planes', 'blur_planes', 'shift_planes', 'shadow_planes', 'recipes'}
+        self.assertEqual(len(_library.TAKES), 28)
+        self.assertLessEqual(set(corbelrush.missing()), arriving)
+
+    def test_a_missing_function_says_so(self):
+        for name in corbelrush.missing():
+            with self.assertRaisesRegex(NotImplementedError, 'corbelrush_' + name):
+                _library.call(name)
+
+    def test_every_constant(self):
+        constants = dict(re.findall(r'CORBELRUSH_(\w+) = (\d+)', header()))
+        ours = {name: number for kind in (corbelrush.Refusal, corbelrush.Edge, corbelrush.Unit) for name, number in
+                kind.__members__.items()}
+        for name, number in constants.items():
+            if name != 'DONE':
+                with self.subTest(constant=name):
+                    self.assertEqual(ours.get(name), int(number))
