@@ -94,6 +94,7 @@ int main(int count, char **words)
     if (pthread_create(&thread, &attributes, run, NULL) != 0 || pthread_join(thread, NULL) != 0) return 2;
     if (cases >= LONG_RUN && !all_answered()) return 1;
     printf("fuzz: %llu cases of %u functions from seed %llu agree with the rules: %llu done, %llu refused\n",
-           (unsigned long long)cases, function_count, (unsigned long long)seed, (unsigned long long)done, (unsigned long long)refused);
+           (unsigned long long)cases, function_count, (unsigned long long)seed, (unsigned long long)done,
+           (unsigned long long)refused);
     return 0;
 }

@@ -36,7 +36,10 @@ CALL(to_planes) { return UNUSED, corbelrush_to_planes(PICTURE, LENT(SECOND)); }
 CALL(from_planes) { return UNUSED, corbelrush_from_planes(PICTURE, LENT(SECOND)); }
 CALL(blur_planes) { return UNUSED, corbelrush_blur_planes(PICTURE, LENT(SECOND), LENT(KERNEL), c->n, c->strength, c->edge); }
 CALL(shift_planes) { return UNUSED, corbelrush_shift_planes(PICTURE, c->dx, c->dy); }
-CALL(shadow_planes) { return UNUSED, corbelrush_shadow_planes(PICTURE, LENT(SECOND), LENT(THIRD), LENT(KERNEL), c->n, c->edge, COLOURED); }
+CALL(shadow_planes)
+{
+    return UNUSED, corbelrush_shadow_planes(PICTURE, LENT(SECOND), LENT(THIRD), LENT(KERNEL), c->n, c->edge, COLOURED);
+}
 CALL(recipes) { return corbelrush_recipes(PICTURE, LENT(SECOND), LENT(THIRD), LENT(LIST), LENT(KERNEL), out[0]); }
 #endif
 

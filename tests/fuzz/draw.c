@@ -18,7 +18,8 @@ void draw_sides(Case *c, uint32_t small)
     if (chance(600)) c->h = 1, c->w = SIDE - below(2);
 }
 
-void draw_content(int buffer, size_t bytes)
+/* Bytes of any kind. */
+static void draw_content(int buffer, size_t bytes)
 {
     uint8_t *content = before[buffer].bytes;
     switch (below(6)) {
@@ -52,7 +53,7 @@ void draw_room(Case *c, int buffer, size_t least, uint32_t element)
     random_bytes(before[buffer].bytes, c->count[buffer] * element);
 }
 
-static size_t draw_taps(void) { return chance(3) ? 1 + below(33) : 1 + below(5); }
+size_t draw_taps(void) { return chance(3) ? 1 + below(33) : 1 + below(5); }
 
 void draw_numerators(Case *c)
 {
@@ -79,7 +80,10 @@ void draw_weights(float *weights, size_t taps)
     }
 }
 
-float draw_strength(void) { return chance(5) ? PICK_FLOAT(0.0f, -0.0f, -1.0f, 1e-45f, -1e-45f, 3.4028235e38f, -3.4028235e38f) : 1.0f; }
+float draw_strength(void)
+{
+    return chance(5) ? PICK_FLOAT(0.0f, -0.0f, -1.0f, 1e-45f, -1e-45f, 3.4028235e38f, -3.4028235e38f) : 1.0f;
+}
 
 float draw_offset(uint32_t side)
 {
@@ -132,13 +136,17 @@ static void spoil_one(Case *c, uint32_t what)
         memset(before[KERNEL].bytes, 0, 4 * c->count[KERNEL]);
         break;
     case WEIGHT: before[KERNEL].floats[below(1 + (uint32_t)c->count[KERNEL])] = wrong_float(); break;
-    case NUMERATOR: before[KERNEL].words[below(1 + (uint32_t)c->count[KERNEL])] += PICK(1, 1, 65536, 1u << 31, UINT32_MAX); break;
+    case NUMERATOR:
+        before[KERNEL].words[below(1 + (uint32_t)c->count[KERNEL])] += PICK(1, 1, 65536, 1u << 31, UINT32_MAX);
+        break;
     case DEPTH: c->n = PICK(4, 15, 16, 31, 32, 64, 1u << 31, UINT32_MAX); break;
     case STRENGTH: c->strength = not_finite(); break;
     case OFFSET: *(chance(2) ? &c->dx : &c->dy) = not_finite(); break;
     case COLOUR: c->colour[below(4)] = wrong_float(); break;
     case EDGE: c->edge = PICK(4, 5, 255, 256, 1u << 31, UINT32_MAX); break;
-    case PLACE: *(chance(2) ? &c->place : &c->in_place) = (uint64_t)c->w * c->h + PICK(0, 0, 1, 1u << 31) * (chance(3) ? 1ull << 32 : 1); break;
+    case PLACE:
+        *(chance(2) ? &c->place : &c->in_place) = (uint64_t)c->w * c->h + PICK(0, 0, 1, 1u << 31) * (chance(3) ? 1ull << 32 : 1);
+        break;
     }
 }
 
@@ -147,7 +155,7 @@ void spoil(Case *c, uint32_t what)
     if (!chance(3)) return;
     for (uint32_t times = 1 + below(2); times > 0; times--) {
         uint32_t one = 0;
-        while (!(one & what)) one = 1u << below(14);
+        while (!(one & what)) one = 1u << below(WAYS);
         spoil_one(c, one);
     }
 }

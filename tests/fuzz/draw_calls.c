@@ -8,7 +8,7 @@ static size_t area_of(const Case *c) { return (size_t)c->w * c->h; }
 
 static void draw_float_kernel(Case *c)
 {
-    c->count[KERNEL] = chance(3) ? 1 + below(33) : 1 + below(5);
+    c->count[KERNEL] = draw_taps();
     draw_weights(before[KERNEL].floats, c->count[KERNEL]);
 }
 
@@ -186,10 +186,10 @@ static void spoil_recipe(corbelrush_recipe *r, uint32_t kernels)
 static void draw_recipe(const Case *c, corbelrush_recipe *r)
 {
     uint32_t kernels = (uint32_t)c->count[KERNEL] / 33;
-    *r = (corbelrush_recipe){.operation = kernels ? below(3) : 1, .kernel = below(kernels + !kernels), .taps = 1 + below(chance(3) ? 33 : 5),
-                             .n = below(4), .edge = draw_edge(), .composite = below(2), .dx = draw_offset(c->w), .dy = draw_offset(c->h),
-                             .strength = draw_strength(), .red = random_float(0), .green = random_float(0), .blue = random_float(0),
-                             .alpha = random_float(0)};
+    *r = (corbelrush_recipe){.operation = kernels ? below(3) : 1, .kernel = below(kernels + !kernels), .taps = (uint32_t)draw_taps(),
+                             .n = below(4), .edge = draw_edge(), .composite = below(2), .dx = draw_offset(c->w),
+                             .dy = draw_offset(c->h), .strength = draw_strength(), .red = random_float(0),
+                             .green = random_float(0), .blue = random_float(0), .alpha = random_float(0)};
     if (chance(20)) spoil_recipe(r, kernels);
 }
 

@@ -14,8 +14,9 @@
 /* A guard is as large as the largest page that there is. */
 enum { GUARD = 65536, CANARIES = 256, SPACES = BUFFERS + OUTS };
 
-static const char *const space_names[SPACES] = {"the main buffer", "the second buffer", "the third buffer", "the kernel", "the list",
-                                                "answer 0", "answer 1", "answer 2", "answer 3"};
+static const char *const space_names[SPACES] = {"the main buffer", "the second buffer", "the third buffer",
+                                                "the kernel",      "the list",          "answer 0",
+                                                "answer 1",        "answer 2",          "answer 3"};
 
 /* ROOM bytes between two guard pages, and what of them is lent. */
 typedef struct {

@@ -9,7 +9,9 @@
 
 #include "corbelrush.h"
 
-#define BLUR_TAKES uint8_t *picture, size_t picture_len, uint32_t w, uint32_t h, uint8_t *scratch, size_t scratch_len, const float *weights, size_t weights_len, uint32_t n, float strength, uint32_t edge
+#define BLUR_TAKES \
+    uint8_t *picture, size_t picture_len, uint32_t w, uint32_t h, uint8_t *scratch, size_t scratch_len, const float *weights, \
+        size_t weights_len, uint32_t n, float strength, uint32_t edge
 #define BLUR corbelrush_blur(picture, picture_len, w, h, scratch, scratch_len, weights, weights_len, n, strength, edge)
 
 #if defined PLANT_READ_PAST

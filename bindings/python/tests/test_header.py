@@ -71,3 +71,19 @@ class Header(unittest.TestCase):
             if name != 'DONE':
                 with self.subTest(constant=name):
                     self.assertEqual(ours.get(name), int(number))
+
+    def test_every_word(self):
+        """The words that the header has for each number, where it has them."""
+        table = re.search(r'words\[\] = \{(.*?)\};', header(), re.DOTALL)
+        if table is None:
+            self.skipTest('this header has no words')
+        says = re.findall(r'"(.*?)"', table.group(1))
+        self.assertEqual(says[1:], [corbelrush.Refused(number).words for number in corbelrush.Refusal])
+
+    def test_the_version(self):
+        """The version that the header has, where it has one, is the package's."""
+        parts = re.findall(r'#define CORBELRUSH_VERSION_(?:MAJOR|MINOR|PATCH) (\d+)', header())
+        if not parts:
+            self.skipTest('this header has no version')
+        with open(os.path.join(ROOT, 'bindings', 'python', 'pyproject.toml')) as file:
+            self.assertIn('version = "%s"' % '.'.join(parts), file.read())
