@@ -87,6 +87,14 @@ class Edge(enum.IntEnum):
     """Four zeros."""
 
 
+class Operation(enum.IntEnum):
+    """The operation of a recipe."""
+
+    BLUR = 0
+    SHIFT = 1
+    SHADOW = 2
+
+
 class Unit(enum.IntEnum):
     """The unit that a plate names beside a picture; a plate of version 1 names none, which is 0."""
 

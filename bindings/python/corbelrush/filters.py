@@ -11,7 +11,7 @@ from typing import Iterable, NamedTuple, Optional, Sequence, Tuple
 from . import _lent
 from ._lent import Buffer, Lent, Sides
 from ._library import call
-from ._refusals import Edge, Refused
+from ._refusals import Edge, Operation, Refused
 
 Colour = Tuple[float, float, float, float]
 
@@ -80,7 +80,7 @@ def shadow_as(name: str, lent: Tuple[Lent, int, int], weights: Iterable[float], 
 
 
 class Recipe(NamedTuple):
-    """One recipe of a list: 0 blur, 1 shift or 2 shadow, and its numbers. What its operation does not name is not read."""
+    """One recipe of a list: an `Operation` and its numbers. What its operation does not name is not read."""
 
     operation: int
     kernel: int = 0
@@ -99,18 +99,18 @@ class Recipe(NamedTuple):
     @staticmethod
     def of_blur(kernel: int, taps: int, n: int = 0, edge: int = Edge.DUPLICATE, strength: float = 1.0) -> Recipe:
         """A blur by the first `taps` weights of a kernel of the table."""
-        return Recipe(0, kernel, taps, n, edge, strength=strength)
+        return Recipe(Operation.BLUR, kernel, taps, n, edge, strength=strength)
 
     @staticmethod
     def of_shift(dx: float, dy: float) -> Recipe:
         """A shift."""
-        return Recipe(1, dx=dx, dy=dy)
+        return Recipe(Operation.SHIFT, dx=dx, dy=dy)
 
     @staticmethod
     def of_shadow(kernel: int, taps: int, n: int = 0, edge: int = Edge.DUPLICATE, dx: float = 0.0, dy: float = 0.0,
                   strength: float = 1.0, colour: Colour = (0.0, 0.0, 0.0, 1.0), composite: bool = True) -> Recipe:
         """A shadow, blurred by the first `taps` weights of a kernel of the table."""
-        return Recipe(2, kernel, taps, n, edge, int(composite), dx, dy, strength, *colour)
+        return Recipe(Operation.SHADOW, kernel, taps, n, edge, int(composite), dx, dy, strength, *colour)
 
     def packed(self) -> bytes:
         """The record as C has it."""

@@ -65,8 +65,8 @@ class Header(unittest.TestCase):
 
     def test_every_constant(self):
         constants = dict(re.findall(r'CORBELRUSH_(\w+) = (\d+)', header()))
-        ours = {name: number for kind in (corbelrush.Refusal, corbelrush.Edge, corbelrush.Unit) for name, number in
-                kind.__members__.items()}
+        kinds = ((corbelrush.Refusal, ''), (corbelrush.Edge, ''), (corbelrush.Unit, ''), (corbelrush.Operation, 'RECIPE_'))
+        ours = {before + name: number for kind, before in kinds for name, number in kind.__members__.items()}
         for name, number in constants.items():
             if name != 'DONE':
                 with self.subTest(constant=name):

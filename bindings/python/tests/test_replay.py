@@ -1,4 +1,5 @@
-"""The stored vectors (crates/replay/stdin), run through the binding; oracle/NOTES.md says how a vector reads."""
+"""The stored vectors (crates/replay/stdin, and oracle/lists.txt where there is one), run through the binding; oracle/NOTES.md
+says how a vector reads."""
 import os
 import struct
 import unittest
@@ -8,8 +9,9 @@ import corbelrush
 from corbelrush import Refused
 
 ROOT = os.path.dirname(os.path.dirname(os.path.dirname(os.path.dirname(os.path.abspath(__file__)))))
-VECTORS = os.path.join(ROOT, 'crates', 'replay', 'stdin')
+VECTORS = [os.path.join(ROOT, 'crates', 'replay', 'stdin'), os.path.join(ROOT, 'oracle', 'lists.txt')]
 HEAD = 29
+FIELDS_OF_A_RECIPE, NUMBERS_OF_A_RECIPE = 13, 6
 
 
 def binary32(bits):
@@ -163,6 +165,43 @@ def area_update(v):
     return []
 
 
+def to_planes(v):
+    corbelrush.to_planes(bytes(v.bytes), sides=v.sides, into=v.other)
+    return []
+
+
+def from_planes(v):
+    corbelrush.from_planes(bytes(v.bytes), sides=v.sides, into=v.other)
+    return []
+
+
+def blur_planes(v):
+    corbelrush.blur_planes(v.bytes, v.weights, v.n, v.edge, v.strength, sides=v.sides, scratch=v.scratch)
+    return []
+
+
+def shift_planes(v):
+    corbelrush.shift_planes(v.bytes, v.dx, v.dy, sides=v.sides)
+    return []
+
+
+def shadow_planes(v):
+    corbelrush.shadow_planes(v.bytes, v.weights, v.n, v.edge, v.dx, v.dy, v.strength, v.colour, v.composite != 0,
+                             sides=v.sides, scratch=v.scratch, copy=v.copy)
+    return []
+
+
+def recipe(words):
+    return corbelrush.Recipe(*words[:NUMBERS_OF_A_RECIPE], *map(binary32, words[NUMBERS_OF_A_RECIPE:]))
+
+
+def recipes(v):
+    starts = range(0, len(v.list), FIELDS_OF_A_RECIPE)
+    chain = [recipe(v.list[at:at + FIELDS_OF_A_RECIPE]) for at in starts]
+    corbelrush.recipes(v.bytes, chain, v.weights, sides=v.sides, scratch=v.scratch, copy=v.copy)
+    return [0]
+
+
 def share(v):
     return [corbelrush.share(v.w, v.h, v.kernel, v.place, v.second, v.n, v.edge)]
 
@@ -175,9 +214,9 @@ def shares(v):
 
 CALLS = {1: blur, 2: shift, 3: shadow, 4: check, 5: view, 6: sample, 7: spread, 8: plate_picture, 9: plate_job, 10: plate_start,
          11: plate_add, 12: plate_label, 13: pam_read, 14: pam_write, 15: mend, 16: rebuild, 17: blur_whole, 18: area_build,
-         19: area_box, 20: area_update, 27: share, 28: shares}
+         19: area_box, 20: area_update, 21: to_planes, 22: from_planes, 23: blur_planes, 24: shift_planes, 25: shadow_planes,
+         26: recipes, 27: share, 28: shares}
 POINTS = 28
-IMAGE_WRITTEN = 14
 
 
 def outcome(v):
@@ -185,7 +224,7 @@ def outcome(v):
     try:
         answers = CALLS[v.entry](v)
     except Refused as refused:
-        return int(refused.number), [0, refused.place or 0, 0, 0] if v.entry == IMAGE_WRITTEN else [0, 0, 0, 0]
+        return int(refused.number), [refused.index or 0, refused.place or 0, 0, 0]
     return getattr(v, 'pixel', 0), answers + [0] * (4 - len(answers))
 
 
@@ -200,15 +239,26 @@ def agrees(line):
     return works and list(v.bytes) == v.bytes_after and list(v.other) == v.other_after and list(v.list) == v.list_after
 
 
+def vectors():
+    for name in filter(os.path.exists, VECTORS):
+        with open(name) as file:
+            yield from file
+
+
+def replayed(line):
+    """Whether the loaded library has the function of a vector."""
+    entry = int(line.split(' ', 1)[0])
+    return entry in CALLS and CALLS[entry].__name__ not in corbelrush.missing()
+
+
 def stored():
-    with open(VECTORS) as file:
-        return [line for line in file if int(line.split(' ', 1)[0]) in CALLS]
+    """The vectors that are replayed."""
+    return list(filter(replayed, vectors()))
 
 
 def others():
     """How many stored vectors are of functions that are not replayed here."""
-    with open(VECTORS) as file:
-        return sum(int(line.split(' ', 1)[0]) not in CALLS for line in file)
+    return sum(not replayed(line) for line in vectors())
 
 
 class Replay(unittest.TestCase):
