@@ -2,10 +2,11 @@
 from __future__ import annotations
 
 import operator
+import struct
 from typing import Iterable, List, NamedTuple, Optional, Tuple
 
 from . import _lent
-from ._lent import Buffer, Sides
+from ._lent import Buffer, Lent, Sides
 from ._library import call
 from ._refusals import Edge
 from .filters import must
@@ -28,6 +29,12 @@ class Point(NamedTuple):
     share: int
 
 
+def _first_pairs(listed: Lent, letter: str, count: int) -> Iterable[Tuple[int, int]]:
+    """The first entries of a list."""
+    numbers = struct.unpack_from('=%d%s' % (2 * count, letter), listed.view)
+    return zip(numbers[::2], numbers[1::2])
+
+
 def check(picture: Buffer, *, sides: Sides = None) -> Optional[int]:
     """The place y * w + x of the first pixel of which r, g or b exceeds a, or None. Refusals: 1, 2."""
     number, (found, place) = call('check', *_lent.picture(picture, sides, False))
@@ -44,8 +51,7 @@ def mend(picture: Buffer, *, sides: Sides = None, into: Optional[Buffer] = None)
     listed = _lent.flat(memoryview(bytearray(2 * lent[0].count)).cast('I') if into is None else into, 'into', 'I', True, 2)
     number, (count,) = call('mend', *lent, listed)
     must(number)
-    words = listed.view.cast('B').cast('I')
-    return [Change(words[2 * i], words[2 * i + 1]) for i in range(count)]
+    return [Change(*pair) for pair in _first_pairs(listed, 'I', count)]
 
 
 def rebuild(picture: Buffer, changes: Iterable[Tuple[int, int]], *, sides: Sides = None) -> None:
@@ -117,5 +123,4 @@ def shares(w: int, h: int, numerators: Iterable[int], out_place: int, n: int = 0
     listed = _lent.flat(lent, 'into', 'Q', True, 2)
     number, (count,) = call('shares', w, h, _lent.words(numerators, 'numerators'), n, edge, out_place, listed)
     must(number)
-    words = listed.view.cast('B').cast('Q')
-    return [Point(words[2 * i], words[2 * i + 1]) for i in range(count)]
+    return [Point(*pair) for pair in _first_pairs(listed, 'Q', count)]

@@ -1,5 +1,6 @@
 """Buffers: shapes, flat ones with sides, what cannot be lent, overlaps; and that a buffer is held while it is lent."""
 import array
+import concurrent.futures
 import ctypes
 import unittest
 
@@ -101,3 +102,11 @@ class Held(unittest.TestCase):
             room.append(0)
         del lent
         room.append(0)
+
+    def test_threads_on_different_pictures(self):
+        wanted = bytearray(range(240))
+        corbelrush.blur(wanted, WEIGHTS, n=2, sides=(10, 6))
+        made = [bytearray(range(240)) for _ in range(64)]
+        with concurrent.futures.ThreadPoolExecutor(8) as pool:
+            list(pool.map(lambda picture: corbelrush.blur(picture, WEIGHTS, n=2, sides=(10, 6)), made))
+        self.assertEqual(made, [wanted] * 64)
