@@ -7,6 +7,7 @@ from __future__ import annotations
 
 import array
 import ctypes
+import math
 import operator
 import struct
 from typing import Any, Callable, Iterable, List, Optional, Tuple
@@ -75,6 +76,10 @@ class Lent:
         self.view = view
         self.count = count
         self.address = _address(view)
+
+    def part(self, offset: int, shape: Tuple[int, ...]) -> memoryview:
+        """A part of the buffer's own bytes, under a shape."""
+        return self.view.cast('B')[offset:offset + math.prod(shape)].cast('B', shape)
 
 
 def refuse_overlaps(buffers: List[Tuple[Lent, bool]]) -> None:

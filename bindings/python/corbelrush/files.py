@@ -26,9 +26,9 @@ def _bytes_of(buffer: Buffer, name: str, written: bool) -> Lent:
 def plate_picture(plate: Buffer, index: int) -> memoryview:
     """The picture of a plate by its index, of shape (h, w, 4): a part of the plate itself, and no copy. Refusals: 10, 12."""
     lent = _bytes_of(plate, 'plate', False)
-    number, (w, h, offset, length) = call('plate_picture', lent, index)
+    number, (w, h, offset, _) = call('plate_picture', lent, index)
     must(number)
-    return lent.view.cast('B')[offset:offset + length].cast('B', (h, w, 4))
+    return lent.part(offset, (h, w, 4))
 
 
 def plate_label(plate: Buffer, index: int) -> Label:
@@ -64,9 +64,9 @@ def pam_read(file: Buffer, *, into: Optional[Buffer] = None) -> memoryview:
     """The picture of a PAM file with straight alpha, premultiplied, of shape (h, w, 4), made anew or in `into`. Refusals: 15, 3."""
     lent = _bytes_of(file, 'file', False)
     made = _lent.work(into, lent, 'into')
-    number, (w, h, written) = call('pam_read', lent, made)
+    number, (w, h, _) = call('pam_read', lent, made)
     must(number)
-    return made.view.cast('B')[:written].cast('B', (h, w, 4))
+    return made.part(0, (h, w, 4))
 
 
 def pam_write(picture: Buffer, *, sides: Sides = None, into: Optional[Buffer] = None) -> memoryview:
@@ -76,4 +76,4 @@ def pam_write(picture: Buffer, *, sides: Sides = None, into: Optional[Buffer] = 
     number, (written, place) = call('pam_write', lent, w, h, file)
     if number:
         raise Refused(number, place=place if number == Refusal.EXCEEDS else None)
-    return file.view.cast('B')[:written]
+    return file.part(0, (written,))
