@@ -23,7 +23,7 @@ use Rattle.plane_filters.specs.Outcome.{blurPlanesOutcome, shadowPlanesO
 
 module _ (w h : ℕ) (p : List ℕ) (e : length p ≡ bytesOf w h) where
   -- both keep the length
-  blur-long : (mode : EdgeMode) (weights : List Float) (n : ℕ) (strength : Float) → length (blurredOrKept mode weights n strength w h p) ≡ bytesOf w h
+  pub blur-long : (mode : EdgeMode) (weights : List Float) (n : ℕ) (strength : Float) → length (blurredOrKept mode weights n strength w h p) ≡ bytesOf w h
   unfolding blurredOrKept blurred
   blur-long mode weights n strength = by (aboveZero strength)
     where
@@ -31,7 +31,7 @@ module _ (w h : ℕ) (p : List ℕ) (e : length p ≡ bytesOf w h) where
       by true = length-painted w h _
       by false = e
 
-  shadow-long : (mode : EdgeMode) (weights : List Float) (n : ℕ) (recipe : Recipe) (composite : Bool) → length (shadowed mode weights n recipe composite w h p) ≡ bytesOf w h
+  pub shadow-long : (mode : EdgeMode) (weights : List Float) (n : ℕ) (recipe : Recipe) (composite : Bool) → length (shadowed mode weights n recipe composite w h p) ≡ bytesOf w h
   unfolding shadowed written composed coloured
   shadow-long mode weights n recipe true = length-painted w h _
   shadow-long mode weights n recipe false = length-painted w h _

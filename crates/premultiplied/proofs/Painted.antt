@@ -22,7 +22,7 @@ unfolding chan
 chan-byte p w c x y bytes = bytes _
 
 module _ (w h : ℕ) where
-  painted-bytes : (F : ℕ → Plane) → ((c x y : ℕ) → F c x y ≤ 255) → Bytes (painted w h F)
+  pub painted-bytes : (F : ℕ → Plane) → ((c x y : ℕ) → F c x y ≤ 255) → Bytes (painted w h F)
   unfolding painted
   painted-bytes F low i =
       ⊎-elim

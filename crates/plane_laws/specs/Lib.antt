@@ -1,0 +1,2 @@
+-- Premultiplied stays premultiplied, on four planes.
+pub mod Stays

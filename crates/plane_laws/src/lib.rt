@@ -1,0 +1,1 @@
+// What holds of every call on four planes: laws, no code.
