@@ -18,6 +18,7 @@ use Rattle.edges.proofs.Samples.{sample-relates}
 use Rattle.edges.proofs.Whole.{from-zero, place-is}
 use Rattle.binary32.specs.Grid.{sum}
 use Rattle.binary32.specs.Taps.{sumTo}
+use Rattle.grid_sums.specs.Sums.{gridSum}
 use Rattle.exact_blur.specs.Exact.{exactHalve, exactDouble, exactConvolve}
 use Rattle.share_laws.proofs.Sums.{sum-is, sum-most}
 use Rattle.backwards.specs.Worth.{worthOf, total, Gained}
@@ -92,7 +93,7 @@ module _ (mode : EdgeMode) (s : ℕ) (low : 0 < s) (l : Line) where
       rw (ne-eqb (y % 2) 0 f) (omega (arith, none))
 
   pub convolve-taps : (numerators : List ℕ) (x : ℕ) → exactConvolve mode numerators s l x ≡ tapSum mode numerators s l x (length numerators / 2)
-  unfolding exactConvolve tapSum
+  unfolding gridSum tapSum
   convolve-taps numerators x = refl
 
 -- a row that gained by taps gained by the pass that they are

@@ -13,7 +13,8 @@ use Rattle.binary32.specs.Taps.{tap, taps, sumTo}
 use Rattle.passes.specs.Passes.{halve, double, convolve}
 use Rattle.passes.specs.Blur.{blur}
 use Rattle.gaussian_blur.specs.Blurred.{blurredPlane}
-use Rattle.exact_blur.specs.Exact.{exactHalve, exactDouble, exactConvolve, exactBlur}
+use Rattle.grid_sums.specs.Sums.{gridSum}
+use Rattle.exact_blur.specs.Exact.{exactHalve, exactDouble, exactBlur}
 
 -- case E's row, 80, 0, 0, 0 by weight 1 at n = 1, with 81 in the place of 80
 abbrev row : Plane
@@ -21,7 +22,7 @@ row x y = getD (81 ∷ 0 ∷ 0 ∷ 0 ∷ []) x 0
 
 -- its first channel is 81 / 2 exactly, 81 times 2^41 over 2^42, ..
 pub exact-half : exactBlur Duplicate (65536 ∷ []) 1 4 1 row 0 0 ≡ 81 * 2199023255552
-unfolding place sample sumTo blur exactHalve exactDouble exactConvolve
+unfolding place sample sumTo blur exactHalve exactDouble gridSum
 exact-half = refl
 
 -- .. and 41 in the blur

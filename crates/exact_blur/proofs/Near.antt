@@ -19,6 +19,7 @@ use Rattle.binary32.proofs.Taps.{channel-exact}
 use Rattle.passes.specs.Passes.{convolve}
 use Rattle.passes.proofs.Relates.{Moves, blur-moves}
 use Rattle.gaussian_blur.specs.Blurred.{blurredPlane, blurred}
+use Rattle.grid_sums.specs.Sums.{gridSum}
 use Rattle.exact_blur.specs.Exact.{exactConvolve, exactBlur, scaleOf}
 use Rattle.exact_blur.specs.Demand.{stepsOf, Within, GridKernel, OfTheBlur}
 use Rattle.exact_blur.proofs.Stages.{Stage, Near, over-by, done-scale, done-halves}
@@ -55,7 +56,7 @@ module _ (mode : EdgeMode) (weights : List Float) (kernel : GridKernel weights) 
   -- on bytes the convolution in binary32 is the exact one over 65536, rounded to the nearest
   pub convolve-on-grid : (s : ℕ) (p : Line) → ((i : ℕ) → p i ≤ 255) → (x : ℕ) →
       convolve mode weights s p x ≡ (2 * exactConvolve mode (numerators weights) s p x + 65536) / 131072
-  unfolding convolve exactConvolve
+  unfolding convolve gridSum
   convolve-on-grid s p bytes x =
       channel-exact (λ j. sample mode s p (x + j) (length weights / 2)) (weight weights) (length weights)
       (λ j _. sample-relates mode s p p (x + j) (length weights / 2) (λ a _. a ≤ 255) (omega arith) bytes)
@@ -63,7 +64,7 @@ module _ (mode : EdgeMode) (weights : List Float) (kernel : GridKernel weights) 
       ∙ simp (length-map, numerator-at weights)
 
   convolve-moves : Moves Near (over-by 65536) (convolve mode weights) (exactConvolve mode (numerators weights))
-  unfolding exactConvolve
+  unfolding gridSum
   convolve-moves t s p q r x =
       let all = numerators-sum weights in
       settled 65536 (omega arith) (omega (arith, kernel .fits))

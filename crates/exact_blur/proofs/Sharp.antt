@@ -18,7 +18,8 @@ use Rattle.binary32.specs.Taps.{tap, taps, sumTo}
 use Rattle.passes.specs.Passes.{convolve}
 use Rattle.passes.specs.Blur.{blur}
 use Rattle.gaussian_blur.specs.Blurred.{blurredPlane}
-use Rattle.exact_blur.specs.Exact.{exactConvolve, exactBlur}
+use Rattle.grid_sums.specs.Sums.{gridSum}
+use Rattle.exact_blur.specs.Exact.{exactBlur}
 use Rattle.exact_blur.specs.Demand.{stepsOf, Within}
 
 -- weights 32768, 32767 and 2 over 65536, ..
@@ -44,7 +45,7 @@ blurred-middle None = refl
 
 -- .. and 32768 · 131071 over 2^32 exactly, 1 + 2^-17 steps below
 exact-middle : (mode : EdgeMode) → exactBlur mode (numerators heavy) 0 3 3 column 1 1 ≡ 32768 * 131071
-unfolding place sample blur exactConvolve sumTo onGrid numerator outsideUnit isNan lt
+unfolding place sample blur gridSum sumTo onGrid numerator outsideUnit isNan lt
 exact-middle Duplicate = refl
 exact-middle Wrap = refl
 exact-middle Mirror = refl

@@ -4,13 +4,12 @@ use Prim.Native.Nat.{ℕ, _+_, _*_, _/_, _%_, _^_}
 use mathlib.Core.Bool.{cond}
 use mathlib.Core.List.{List}
 use lib.Dec.{eqb}
-use lib.ListN.{length, getD}
 use Rattle.picture.specs.Planes.{Plane}
 use Rattle.picture.specs.declared.EdgeMode.{EdgeMode}
 use Rattle.edges.specs.Edges.{sample}
-use Rattle.binary32.specs.Taps.{sumTo}
 use Rattle.passes.specs.Passes.{Pass}
 use Rattle.passes.specs.Blur.{blur}
+use Rattle.grid_sums.specs.Sums.{gridSum}
 
 -- halving weights 1, 3, 3, 1 over 8
 unfoldable pub exactHalve : EdgeMode → Pass
@@ -24,10 +23,9 @@ exactDouble mode s line y =
     (sample mode s line (y / 2) 1 + 3 * sample mode s line (y / 2) 0)
     (3 * sample mode s line (y / 2) 0 + sample mode s line (y / 2 + 1) 0)
 
--- numerators over 65536: tap j samples x + j - floor(k/2)
-unfoldable pub exactConvolve : EdgeMode → List ℕ → Pass
-exactConvolve mode numerators s line x =
-    sumTo (λ j. sample mode s line (x + j) (length numerators / 2) * getD numerators j 0) (length numerators)
+-- numerators over 65536: the sum that the blur in whole numbers rounds
+abbrev pub exactConvolve : EdgeMode → List ℕ → Pass
+exactConvolve mode numerators = gridSum mode numerators
 
 -- the same scheme at the exact passes
 abbrev pub exactBlur : EdgeMode → List ℕ → ℕ → ℕ → ℕ → Plane → Plane

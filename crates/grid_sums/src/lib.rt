@@ -79,11 +79,11 @@ fn add_sample(
     start: usize,
     len: usize,
     stride: usize,
+    inner: bool,
     from: usize,
     c: usize,
     d: usize,
     k: u32,
-    inner: bool,
     mode: EdgeMode,
 )
     requires { ⌜ (n ≤ length (now acc)) × (k ≤ 65536) ⌝ ∗ ⌜ ((i : ℕ) → i < n → getD (now acc) i 0 ≤ mostSum) ⌝ ∗ ⌜ (0 < stride) × (start + len * stride ≤ length (now src)) ⌝
@@ -128,11 +128,11 @@ fn add_taps(
             start,
             len,
             stride,
+            inner,
             from,
             x + j,
             d,
             numerators[j],
-            inner,
             mode,
         );
         j += 1;

@@ -13,7 +13,7 @@ use Rattle.binary32.proofs.Channels.{byte-le}
 use Rattle.passes.specs.Passes.{convolve}
 use Rattle.kept.proofs.Carried.{Carries, Sampled, Eighths, blur-carries}
 use Rattle.gaussian_blur.specs.Blurred.{blurred}
-use Rattle.exact_blur.specs.Exact.{exactConvolve, exactBlur}
+use Rattle.exact_blur.specs.Exact.{exactBlur}
 use Rattle.exact_blur.specs.Demand.{GridKernel, stepsOf, Within}
 use Rattle.exact_blur.proofs.Near.{convolve-on-grid, near-exact}
 use Rattle.grid_sums.specs.Sums.{gridSum, wholeConvolve}
@@ -33,10 +33,10 @@ alike-eighths a b c d a′ b′ c′ d′ p q r s = (rw (p .0, q .0, r .0, s .0)
 
 module _ (mode : EdgeMode) (weights : List Float) (kernel : GridKernel weights) where
   alike-convolve : Carries Alike (wholeConvolve mode (numerators weights)) (convolve mode weights)
-  unfolding wholeConvolve gridSum convolve exactConvolve
+  unfolding wholeConvolve gridSum convolve
   alike-convolve s p q r x =
       let exact = convolve-on-grid mode weights kernel s q (λ i. r i .1) x in
-      let same : gridSum mode (numerators weights) s p x ≡ exactConvolve mode (numerators weights) s q x = ap (λ (o : Line). gridSum mode (numerators weights) s o x) (fun-ext (λ i. r i .0)) in
+      let same : gridSum mode (numerators weights) s p x ≡ gridSum mode (numerators weights) s q x = ap (λ (o : Line). gridSum mode (numerators weights) s o x) (fun-ext (λ i. r i .0)) in
       (omega (arith, exact, same), byte-le _)
 
 pub same-as-float : SameAsFloat

@@ -10,6 +10,7 @@ use Rattle.picture.specs.declared.EdgeMode.{EdgeMode}
 use Rattle.edges.specs.Edges.{sample}
 use Rattle.edges.proofs.Samples.{sample-local}
 use Rattle.passes.proofs.Local.{Local, Same, blur-local}
+use Rattle.grid_sums.specs.Sums.{gridSum}
 use Rattle.exact_blur.specs.Exact.{exactHalve, exactDouble, exactConvolve, exactBlur}
 use Rattle.share_laws.proofs.Linear.{Lin, PlaneLin, Linear, lin-plus, lin-times, lin-cond, lin-sum, sample-linear, blur-linear}
 
@@ -40,7 +41,7 @@ module _ (mode : EdgeMode) where
 
   module _ (numerators : List ℕ) where
     pub convolve-linear : Linear (exactConvolve mode numerators)
-    unfolding exactConvolve
+    unfolding gridSum
     convolve-linear s x =
         lin-sum _ (length numerators) (λ j. turned j (sample-linear mode s (x + j) (length numerators / 2)))
       where
@@ -48,7 +49,7 @@ module _ (mode : EdgeMode) where
         turned {F} j f = rw (fun-ext {A = Line} (λ l. mul-comm (F l) (getD numerators j 0))) (lin-times (getD numerators j 0) f)
 
     convolve-local : Local (exactConvolve mode numerators)
-    unfolding exactConvolve
+    unfolding gridSum
     convolve-local s p q z h x = rw (samples s p q z h)
 
     pub exact-linear : (n w h x y : ℕ) → PlaneLin (λ p. exactBlur mode numerators n w h p x y)

@@ -16,6 +16,7 @@ use Rattle.edges.specs.declared.At.the-variants.{Inside}
 use Rattle.edges.specs.Edges.{modulo, place, valueAt, sample}
 use Rattle.edges.proofs.Samples.{sample-relates}
 use Rattle.binary32.specs.Grid.{sum}
+use Rattle.grid_sums.specs.Sums.{gridSum}
 use Rattle.exact_blur.specs.Exact.{exactHalve, exactDouble, exactConvolve}
 use Rattle.share_laws.specs.Share.{lineBlur, exactLine, axisScale}
 use Rattle.share_laws.proofs.Sums.{sum-same, sum-times, sum-is, sum-most}
@@ -65,7 +66,7 @@ module _ (mode : EdgeMode) (f : mode ≡ None → ⊥) (ms : List ℕ) (e : sum 
       either (λ a. a ≡ 4 * k) (eqb (y % 2) 0) _ _ (omega (arith, at (y / 2) 1, at (y / 2) 0)) (omega (arith, at (y / 2) 0, at (y / 2 + 1) 0))
 
   convolve-flat : (line : Line) (k : ℕ) → ((i : ℕ) → line i ≡ k) → (s x : ℕ) → exactConvolve mode ms s line x ≡ 65536 * k
-  unfolding exactConvolve
+  unfolding gridSum
   convolve-flat line k all s x =
       sum-same _ (λ j. k * getD ms j 0) (length ms) (λ j _. ap (λ (a : ℕ). a * getD ms j 0) (flat line k all s (x + j) (length ms / 2)))
       ∙ sum-times k (λ j. getD ms j 0) (length ms)
@@ -96,7 +97,7 @@ module _ (mode : EdgeMode) where
       either (λ a. a ≤ 4 * k) (eqb (y % 2) 0) _ _ (omega (arith, at (y / 2) 1, at (y / 2) 0)) (omega (arith, at (y / 2) 0, at (y / 2 + 1) 0))
 
   pub convolve-most : (ms : List ℕ) → sum ms ≤ 65536 → (line : Line) (k : ℕ) → ((i : ℕ) → line i ≤ k) → (s x : ℕ) → exactConvolve mode ms s line x ≤ 65536 * k
-  unfolding exactConvolve
+  unfolding gridSum
   convolve-most ms fits line k all s x =
       let most = rw (sum-is ms) at (sum-most (λ j. sample mode s line (x + j) (length ms / 2)) (λ j. getD ms j 0) k (λ j. under line k all s (x + j) (length ms / 2)) (length ms)) in
       omega (arith, most, mul-le-mul-right k fits, mul-comm k (sum ms))

@@ -10,9 +10,9 @@ use Rattle.edges.specs.Edges.{place, sample}
 use Rattle.binary32.specs.Grid.{sum}
 use Rattle.binary32.specs.Taps.{sumTo}
 use Rattle.passes.specs.Blur.{blur}
-use Rattle.exact_blur.specs.Exact.{exactHalve, exactDouble, exactConvolve}
+use Rattle.grid_sums.specs.Sums.{gridSum, heavy}
+use Rattle.exact_blur.specs.Exact.{exactHalve, exactDouble}
 use Rattle.share_laws.specs.Share.{share}
-use Rattle.grid_sums.specs.Sums.{heavy}
 use Rattle.mending.specs.Changes.{laidEntries}
 use Rattle.points.specs.Points.{pointsBelow}
 use Rattle.shares.specs.Checks.{maxShareDepth, tooDeepToShare, placeOutside}
@@ -30,7 +30,7 @@ whole = 65536 ∷ []
 pub share-calls :
     (shareOutcome 3 1 quarters 0 1 0 2 ∷ shareOutcome 3 1 quarters 0 3 0 2 ∷ shareOutcome 3 1 (65536 ∷ 0 ∷ []) 0 2 1 0 ∷ shareOutcome 1 1 whole 3 0 0 0 ∷ [])
     ≡ (answered 0 1073741824 ∷ answered 0 0 ∷ answered 0 4294967296 ∷ answered 0 4611686018427387904 ∷ [])
-unfolding shareOutcome settled firstOf firstElse wrongSides zeroOrAbove maxSide wrongTaps maxTaps wrongEdge tooDeepToShare maxShareDepth placeOutside heavy sum modeOf share blur exactHalve exactDouble exactConvolve sumTo sample place
+unfolding shareOutcome settled firstOf firstElse wrongSides zeroOrAbove maxSide wrongTaps maxTaps wrongEdge tooDeepToShare maxShareDepth placeOutside heavy sum modeOf share blur exactHalve exactDouble gridSum sumTo sample place
 share-calls = refl
 
 -- each refusal in front of the later ones: sides, taps, edge, depth, either place, sum
@@ -48,5 +48,5 @@ other = 6 ∷ 7 ∷ []
 pub list-calls :
     (listOutcome 3 1 quarters 0 3 0 (other ∷ other ∷ other ∷ []) ∷ listOutcome 3 1 quarters 0 3 0 (other ∷ []) ∷ listOutcome 2 2 whole 0 0 2 (other ∷ []) ∷ listOutcome 1 1 (0 ∷ []) 0 0 0 [] ∷ [])
     ≡ (answered 0 (pointsLeft ((0 ∷ 1073741824 ∷ []) ∷ (1 ∷ 536870912 ∷ []) ∷ other ∷ []) 2) ∷ answered 17 (pointsLeft (other ∷ []) 0) ∷ answered 0 (pointsLeft ((2 ∷ 4294967296 ∷ []) ∷ []) 1) ∷ answered 0 (pointsLeft [] 0) ∷ [])
-unfolding listOutcome settled firstOf firstElse wrongSides zeroOrAbove maxSide wrongTaps maxTaps wrongEdge tooDeepToShare maxShareDepth placeOutside heavy sum modeOf share blur exactConvolve sumTo sample place pointsBelow laidEntries
+unfolding listOutcome settled firstOf firstElse wrongSides zeroOrAbove maxSide wrongTaps maxTaps wrongEdge tooDeepToShare maxShareDepth placeOutside heavy sum modeOf share blur gridSum sumTo sample place pointsBelow laidEntries
 list-calls = refl

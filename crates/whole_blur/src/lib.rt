@@ -66,23 +66,14 @@ fn whole_refusal(
     ensures { λ r. ⌜ r ≡ firstOf (wholeChecks picture w h scratch (now (numerators .entry)) n edge) ⌝ }
 {
     let short = picture::too_short(scratch, w, h);
-    picture::picture_refusal(
-        picture,
-        w,
-        h,
-        picture::first(
-            picture::TOO_SHORT,
-            short,
-            numerator_refusal(
-                numerators,
-                picture::first(
-                    picture::TOO_DEEP,
-                    picture::too_deep(n),
-                    picture::first(picture::WRONG_EDGE, picture::wrong_edge(edge), 0),
-                ),
-            ),
-        ),
-    )
+    let nine = picture::first(picture::WRONG_EDGE, picture::wrong_edge(edge), 0);
+    let six = picture::first(picture::TOO_DEEP, picture::too_deep(n), nine);
+    let three = picture::first(
+        picture::TOO_SHORT,
+        short,
+        numerator_refusal(numerators, six),
+    );
+    picture::picture_refusal(picture, w, h, three)
 }
 
 // An accepted call: the picture blurred, and the scratch zero where it was used.

@@ -29,20 +29,4 @@ loop-again c =
 pub add-lanes-spec : {M : Type 1} → statement M
 add-lanes-spec =
     tie.close
-    (tie.spec
-    Inv-loop
-    μ-loop
-    (λ c. (omega arith, span-none (omega arith)))
-    (λ c. omega arith)
-    (λ c. omega arith)
-    (λ c. omega arith)
-    (λ c. omega arith)
-    (λ c κs. search needs)
-    add-acc
-    (λ c. omega arith)
-    (λ c. omega arith)
-    (λ c. omega arith)
-    (λ c. omega arith)
-    loop-again
-    (λ c. c .before .loop .inv .1 .size)
-    (λ c. span-ends (c .before .loop .inv .1) refl (omega arith)))
+    (tie.spec Inv-loop μ-loop (λ c. (omega arith, span-none (omega arith))) (λ c. omega arith) (λ c. omega arith) (λ c. omega arith) (λ c. omega arith) (λ c κs. search needs) add-acc (λ c. omega arith) (λ c. omega arith) (λ c. omega arith) (λ c. omega arith) loop-again (λ c. c .before .loop .inv .1 .size) (λ c. span-ends (c .before .loop .inv .1) refl (omega arith)))

@@ -19,14 +19,4 @@ loop-again c = let l = c .before in (omega arith, span-more (l .loop .inv .1) (o
 pub clear-sums-spec : {M : Type 1} → statement M
 clear-sums-spec =
     tie.close
-    (tie.spec
-    Inv-loop
-    μ-loop
-    (λ c. (omega arith, span-none (omega arith)))
-    (λ c. omega arith)
-    (λ c. omega arith)
-    (λ c. omega arith)
-    (λ c. omega arith)
-    loop-again
-    (λ c. c .before .loop .inv .1 .size)
-    (λ c. span-ends (c .before .loop .inv .1) refl (omega arith)))
+    (tie.spec Inv-loop μ-loop (λ c. (omega arith, span-none (omega arith))) (λ c. omega arith) (λ c. omega arith) (λ c. omega arith) (λ c. omega arith) loop-again (λ c. c .before .loop .inv .1 .size) (λ c. span-ends (c .before .loop .inv .1) refl (omega arith)))

@@ -32,18 +32,4 @@ loop-again c = let l = c .before .before in (omega arith, span-more (l .loop .in
 pub round-sums-spec : {M : Type 1} → statement M
 round-sums-spec =
     tie.close
-    (tie.spec
-    Inv-loop
-    μ-loop
-    (λ c. (omega arith, span-none (omega arith)))
-    (λ c. omega arith)
-    (λ c. omega arith)
-    add-dst
-    cast-dst
-    (λ c. omega arith)
-    (λ c. omega arith)
-    (λ c. omega arith)
-    (λ c. omega arith)
-    loop-again
-    (λ c. c .before .loop .inv .1 .size)
-    (λ c. span-ends (c .before .loop .inv .1) refl (omega arith)))
+    (tie.spec Inv-loop μ-loop (λ c. (omega arith, span-none (omega arith))) (λ c. omega arith) (λ c. omega arith) add-dst cast-dst (λ c. omega arith) (λ c. omega arith) (λ c. omega arith) (λ c. omega arith) loop-again (λ c. c .before .loop .inv .1 .size) (λ c. span-ends (c .before .loop .inv .1) refl (omega arith)))

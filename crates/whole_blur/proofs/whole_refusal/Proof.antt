@@ -9,25 +9,14 @@ returns c =
     let three = c .before in
     let kernel = three .before in
     let six = kernel .before in
-    let nine = six .before in
-    let edge = nine .before in
-    let deep = edge .before in
+    let nine = six .before .before in
     in-front-of _ _ (c .picture-refusal .ensures)
-    (in-front _ _ (three .first3 .ensures) (deep .before .too-short .ensures)
+    (in-front _ _ (three .first3 .ensures) (nine .before .before .too-short .ensures)
     (in-front-of _ _ (kernel .numerator-refusal .ensures)
-    (in-front _ _ (six .first2 .ensures) (deep .too-deep .ensures)
-    (in-front _ _ (nine .first .ensures) (edge .wrong-edge .ensures) none))))
+    (in-front _ _ (six .first2 .ensures) (six .before .too-deep .ensures)
+    (in-front _ _ (nine .first .ensures) (nine .before .wrong-edge .ensures) none))))
 
 pub whole-refusal-spec : {M : Type 1} → statement M
 whole-refusal-spec =
     tie.close
-    (tie.spec
-    (λ c κs. search needs)
-    (λ c κs. search needs)
-    (λ c κs. search needs)
-    (λ c κs. search needs)
-    (λ c κs. search needs)
-    (λ c κs. search needs)
-    (λ c κs. search needs)
-    (λ c κs. search needs)
-    returns)
+    (tie.spec (λ c κs. search needs) (λ c κs. search needs) (λ c κs. search needs) (λ c κs. search needs) (λ c κs. search needs) (λ c κs. search needs) (λ c κs. search needs) (λ c κs. search needs) returns)

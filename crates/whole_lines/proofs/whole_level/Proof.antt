@@ -34,11 +34,15 @@ mul-whole-lines c =
     let t = c .before .before .before .before .before .before .before .before in
     omega (arith, t .width .ensures, t .before .before .before .before .pre .0 .w-high, room-is)
 
+-- where the function starts, from the rows' call
+abbrev start : tie.After-whole-lines → tie.Start
+start r = r .before .before .before .before .before .before .before .before
+
 whole-lines-requires-2 : tie.Need-whole-lines-requires-2
 whole-lines-requires-2 c κs =
     let r = c .before .before .before .before in
     let t = r .before .before .before in
-    let s = t .before .before .before .before .before in
+    let s = start r in
     let z = s .pre .0 in
     let ew = t .before .width .ensures in
     let eh = t .height .ensures in
@@ -58,11 +62,10 @@ returns c =
     let q = c .before .before in
     let r = q .before .before .before .before .before in
     let t = r .before .before .before in
-    let s = t .before .before .before .before .before in
-    let a = s .args in
+    let a = start r .args in
     q .whole-lines2 .ensures
     ∙ rw (r .whole-lines .ensures, t .before .width .ensures, t .height .ensures)
-    (level-passed (wholeConvolve (a .mode) (now (a .numerators))) (whole-local (a .mode) (now (a .numerators))) (a .s) (a .s) (s .pre .0) (now (a .picture)))
+    (level-passed (wholeConvolve (a .mode) (now (a .numerators))) (whole-local (a .mode) (now (a .numerators))) (a .s) (a .s) (start r .pre .0) (now (a .picture)))
 
 pub whole-level-spec : {M : Type 1} → statement M
 whole-level-spec =
