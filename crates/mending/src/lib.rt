@@ -1,5 +1,5 @@
 // Mending a picture, with a list of what was changed, and rebuilding the old picture from the two.
-mod counter;
+pub mod counter;
 pub mod mender;
 pub mod rebuilder;
 mod words;

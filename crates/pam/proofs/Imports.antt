@@ -9,7 +9,7 @@ use Rattle.picture.specs.Planes.{laid}
 use Rattle.picture.specs.Refusal.{firstElse, firstOf, tooShort}
 use Rattle.picture.specs.Sizes.{fullSize}
 use Rattle.pam_format.specs.Format.{widthIn, heightIn, isPam}
-use Rattle.pam.specs.Straight.{imported}
+use Rattle.pam_convert.specs.Straight.{imported}
 use Rattle.pam.specs.Import.{pixelsIn, importOutcome, importAnswer}
 use Rattle.pam.specs.declared.reading.ImportRefusal.the-variants.{NoPam, TooShort}
 use Rattle.pam.specs.declared.reading.Imported.the-variants.{Refused, Read}

@@ -20,7 +20,7 @@ use Rattle.grading.specs.Premultiplied.{none, checked}
 use Rattle.pam_format.specs.Header.{header}
 use Rattle.pam_format.specs.Format.{widthIn, heightIn, fileLength, Pam}
 use Rattle.pam_format.proofs.Files.{pam-is}
-use Rattle.pam.specs.Straight.{outward, imported, exported}
+use Rattle.pam_convert.specs.Straight.{outward, imported, exported}
 use Rattle.pam.specs.Needs.{Passed}
 use Rattle.pam.specs.Import.{pixelsIn, importOutcome, importAnswer}
 use Rattle.pam.specs.Export.{fileOf}
@@ -29,11 +29,11 @@ use Rattle.pam.specs.declared.reading.Imported.the-variants as import
 use Rattle.pam.specs.declared.writing.Exported.{Exported}
 use Rattle.pam.specs.declared.writing.Exported.the-variants as export
 use Rattle.pam.proofs.Taken.{was-read}
-use Rattle.pam.proofs.Channels.{Bytes, there-and-back, passes-inward}
+use Rattle.pam_convert.proofs.Channels.{Bytes, there-and-back, passes-inward}
 use Rattle.pam.proofs.Determined.{import-once, export-once}
 use Rattle.pam.proofs.Exports.{past-both, written}
 use Rattle.pam.proofs.Imports.{read-in}
-use Rattle.pam.proofs.Recolouring.{length-recoloured}
+use Rattle.pam_convert.proofs.Recolouring.{length-recoloured}
 use Rattle.pam.proofs.reading.pam_read.Reads as read
 use Rattle.pam.proofs.reading.pam_read.Kinds as read-kinds
 use Rattle.pam.proofs.writing.pam_write.Reads as write

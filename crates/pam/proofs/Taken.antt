@@ -13,7 +13,7 @@ use Rattle.picture.proofs.Passed.{passed}
 use Rattle.picture.proofs.Settled.{read}
 use Rattle.pam_format.specs.Format.{widthIn, heightIn, isPam, Pam}
 use Rattle.pam_format.proofs.Files.{pam-is}
-use Rattle.pam.specs.Straight.{imported}
+use Rattle.pam_convert.specs.Straight.{imported}
 use Rattle.pam.specs.Import.{PictureRead, pixelsIn, importOutcome, importAnswer}
 use Rattle.pam.specs.declared.reading.Imported.the-variants.{Read}
 

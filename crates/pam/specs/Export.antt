@@ -10,7 +10,7 @@ use Rattle.picture.specs.Refusal.{Check, check, firstOf, pictureChecks}
 use Rattle.grading.specs.Premultiplied.{checkNumber, scanned}
 use Rattle.pam_format.specs.Header.{header}
 use Rattle.pam_format.specs.Format.{fileLength}
-use Rattle.pam.specs.Straight.{exported}
+use Rattle.pam_convert.specs.Straight.{exported}
 use Rattle.pam.specs.declared.writing.Exported.{Exported}
 use Rattle.pam.specs.declared.writing.Exported.the-variants.{Refused, Exceeds, TooShort, Written}
 

@@ -8,7 +8,7 @@ use Rattle.picture.specs.Planes.{bytesOf, laid}
 use Rattle.picture.specs.Refusal.{Check, check, firstOf, tooShort}
 use Rattle.pam_format.specs.Header.{header}
 use Rattle.pam_format.specs.Format.{widthIn, heightIn, isPam}
-use Rattle.pam.specs.Straight.{imported}
+use Rattle.pam_convert.specs.Straight.{imported}
 use Rattle.pam.specs.declared.reading.ImportRefusal.{ImportRefusal}
 use Rattle.pam.specs.declared.reading.ImportRefusal.the-variants.{NoPam, TooShort}
 use Rattle.pam.specs.declared.reading.Imported.{Imported}

@@ -5,7 +5,6 @@ use mathlib.Core.List.{List}
 use Prim.Native.Nat.{ℕ}
 use lib.ListN.{length}
 use Rattle.picture.specs.Refusal.{wrongSides, wrongLength}
-use Rattle.picture.specs.Sizes.{Pictured}
 use Rattle.grading.specs.Premultiplied.{Finding, none, scanned}
 
 -- checks 1 and 2 let the picture through, and its scan came to this
@@ -13,8 +12,3 @@ pub record Passed (picture : List ℕ) (w h : ℕ) (f : Finding) : Type 0 where
   pub sides : wrongSides w h ≡ false
   pub exact : wrongLength (length picture) w h ≡ false
   pub scan : scanned picture w h ≡ f
-
--- a whole picture no channel of which exceeds its alpha
-pub record Passing (w h : ℕ) (picture : List ℕ) : Type 0 where
-  pub whole : Pictured w h picture
-  pub scan : scanned picture w h ≡ none

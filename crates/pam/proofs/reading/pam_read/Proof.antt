@@ -17,11 +17,11 @@ use Rattle.picture.proofs.Sizes.{full-sized}
 use Rattle.pam_format.specs.Header.{header}
 use Rattle.pam_format.specs.Format.{widthIn, heightIn, isPam, Pam}
 use Rattle.pam_format.proofs.Files.{pam-is}
-use Rattle.pam.specs.Straight.{imported}
+use Rattle.pam_convert.specs.Straight.{imported}
 use Rattle.pam.specs.Import.{pixelsIn, importAnswer}
 use Rattle.pam.specs.declared.reading.Imported.the-variants.{Read}
 use Rattle.pam.proofs.Imports.{no-pam, no-room, read-in, laid-front}
-use Rattle.pam.proofs.Recolouring.{length-recoloured}
+use Rattle.pam_convert.proofs.Recolouring.{length-recoloured}
 use Rattle.pam.proofs.reading.pam_read.Statement.{statement}
 use Rattle.pam.proofs.reading.pam_read.Tie as tie
 

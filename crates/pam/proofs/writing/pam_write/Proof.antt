@@ -8,8 +8,8 @@ use Rattle.pam.proofs.writing.pam_write.Statement.{statement}
 use Rattle.pam.proofs.writing.pam_write.Tie as tie
 
 -- the check's answer, by its case
-told : (c : tie.After-check) {r : Checked} → c .check .result ≡ r → let a = c .before .before .before .args in finding r ≡ checked (a .picture .now) (a .w) (a .h)
-told c e = ap finding (sym e) ∙ c .check .ensures
+told : (c : tie.After-quick-check) {r : Checked} → c .quick-check .result ≡ r → let a = c .before .before .before .args in finding r ≡ checked (a .picture .now) (a .w) (a .h)
+told c e = ap finding (sym e) ∙ c .quick-check .ensures
 
 write-file-requires : tie.Need-write-file-requires
 write-file-requires c κs =

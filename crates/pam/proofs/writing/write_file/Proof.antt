@@ -11,12 +11,12 @@ use Rattle.picture.specs.declared.FullSize.{FullSize}
 use Rattle.picture.proofs.Sizes.{whole}
 use Rattle.pam_format.specs.Header.{header, writtenAt}
 use Rattle.pam_format.proofs.Lines.{Begun, more, part-is}
-use Rattle.pam.specs.Straight.{outward, exported}
+use Rattle.pam_convert.specs.Straight.{outward, exported}
 use Rattle.pam.specs.Export.{exportAnswer}
 use Rattle.pam.specs.declared.writing.Exported.the-variants.{Written}
-use Rattle.pam.specs.Needs.{Passing}
+use Rattle.pam_convert.specs.Needs.{Passing}
 use Rattle.pam.proofs.Exports.{no-room, written}
-use Rattle.pam.proofs.Recolouring.{length-recoloured}
+use Rattle.pam_convert.proofs.Recolouring.{length-recoloured}
 use Rattle.pam.proofs.writing.write_file.Statement.{statement}
 use Rattle.pam.proofs.writing.write_file.Tie as tie
 

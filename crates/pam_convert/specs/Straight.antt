@@ -1,0 +1,53 @@
+-- Straight channels in the testers' files, premultiplied ones in a picture.
+use mathlib.Core.Bool.{cond}
+use mathlib.Core.List.{List}
+use Prim.Native.Nat.{ℕ, _+_, _-_, _*_, _/_, _%_}
+use lib.Dec.{eqb}
+use lib.ListN.{getD}
+use Rattle.picture.specs.Build.{build}
+use Rattle.picture.specs.Planes.{chan, painted}
+use Rattle.picture.specs.declared.Pixel.{Pixel}
+use Rattle.pixels.specs.Channels.{premultiply}
+
+-- outward: c becomes floor((255·c + floor(a/2)) / a), or 0 when a is 0
+unfoldable pub outward : ℕ → ℕ → ℕ
+outward c a = cond (eqb a 0) 0 ((255 * c + a / 2) / a)
+
+-- a pixel whose r, g and b are each made anew by a rule of it and its alpha; the alpha stays
+abbrev pub recolouredPixel : (ℕ → ℕ → ℕ) → Pixel → Pixel
+recolouredPixel f p = record { r = f (p .r) (p .a); g = f (p .g) (p .a); b = f (p .b) (p .a); a = p .a }
+
+-- channel c of such a pixel
+abbrev pub recolouredChannel : (ℕ → ℕ → ℕ) → ℕ → ℕ → ℕ → ℕ
+recolouredChannel f c channel alpha = cond (eqb c 3) alpha (f channel alpha)
+
+-- a picture all of whose pixels are
+unfoldable pub recoloured : (ℕ → ℕ → ℕ) → ℕ → ℕ → List ℕ → List ℕ
+recoloured f w h bytes = painted w h (λ c x y. recolouredChannel f c (chan bytes w c x y) (chan bytes w 3 x y))
+
+-- inward, c becomes floor((c·a + 127) / 255), which is `premultiply`
+abbrev pub imported : ℕ → ℕ → List ℕ → List ℕ
+imported w h body = recoloured premultiply w h body
+
+abbrev pub exported : ℕ → ℕ → List ℕ → List ℕ
+exported w h picture = recoloured outward w h picture
+
+-- 2^24 / a upward, with which a product and a shift divide by an alpha; 0 for alpha 0
+unfoldable pub reciprocal : ℕ → ℕ
+reciprocal a = cond (eqb a 0) 0 ((16777216 + (a - 1)) / a)
+
+-- one for each alpha
+unfoldable pub reciprocals : List ℕ
+reciprocals = build 256 reciprocal
+
+-- byte j of a picture whose channels are made anew, of the bytes alone
+abbrev pub anewAt : (ℕ → ℕ → ℕ) → List ℕ → ℕ → ℕ
+anewAt f bytes j = recolouredChannel f (j % 4) (getD bytes (4 * (j / 4) + j % 4) 0) (getD bytes (4 * (j / 4) + 3) 0)
+
+-- what a pixel's bytes are multiplied by inward: its alpha, and 255 for the alpha itself
+abbrev pub factorsOf : Pixel → Pixel
+factorsOf p = record { r = p .a; g = p .a; b = p .a; a = 255 }
+
+-- what byte j is multiplied by inward: its pixel's alpha, and 255 where it is the alpha
+abbrev pub factorAt : List ℕ → ℕ → ℕ
+factorAt bytes j = cond (eqb (j % 4) 3) 255 (getD bytes (4 * (j / 4) + 3) 0)
