@@ -5,10 +5,12 @@ ghost use lib.ListN.{length, getD};
 ghost use Rattle.picture.specs.Sizes.{levelBytes, Sized};
 ghost use Rattle.passes.specs.Passes.{convolve};
 ghost use Rattle.passes.specs.Levels.{levelPass};
+ghost use Rattle.passes.specs.Forms.{formBytes, formPass, Formed};
 ghost use Rattle.passes.specs.Written.{lineByte, passed};
 ghost use Rattle.passes.specs.Kernel.{Kernel};
 ghost use Rattle.block_sums.specs.Room.{Source, whole, BlockBuffers};
 ghost use Rattle.convolve.specs.Lines.{ConvolveLines, short};
+use passes::Form;
 use picture::EdgeMode;
 use picture::LevelSize;
 
@@ -155,8 +157,8 @@ fn convolve_long(
     );
 }
 
-// Each of `lines` lines of len elements of stride bytes, convolved. The rows of a picture are h lines of w
-// pixels; its columns are one line of h rows.
+// Each of `lines` lines of len elements of stride bytes, convolved. The rows of a picture of pixels are h lines of w
+// pixels, and its columns are one line of h rows; those of four planes are 4h lines of w bytes, and four lines of h rows.
 pub fn convolve_lines(
     src: &[u8],
     dst: &mut [u8],
@@ -178,19 +180,61 @@ pub fn convolve_lines(
     }
 }
 
-// The rows of a level. Rows of one pixel are one line of one element, of all their bytes: four lanes at a time are too few to be worth a block.
-fn convolve_rows(src: &[u8], dst: &mut [u8], w: usize, h: usize, weights: &[f32], mode: EdgeMode)
-    requires { ⌜ 0 < h ⌝ ∗ ⌜ ConvolveLines (now src) (now dst) (now weights) h w 4 ⌝ }
-    ensures { λ _. ⌜ now (dst .exit) ≡ passed (convolve mode (now (weights .entry))) (now (src .entry)) h w w 4 ⌝ }
+// Lines that are a level's rows. Rows of one element are one line of one element, of all their bytes: so few lanes at a time are not worth a block.
+fn convolve_rows(
+    src: &[u8],
+    dst: &mut [u8],
+    w: usize,
+    lines: usize,
+    lanes: usize,
+    weights: &[f32],
+    mode: EdgeMode,
+)
+    requires { ⌜ 0 < lines ⌝ ∗ ⌜ ConvolveLines (now src) (now dst) (now weights) lines w lanes ⌝ }
+    ensures { λ _. ⌜ now (dst .exit) ≡ passed (convolve mode (now (weights .entry))) (now (src .entry)) lines w w lanes ⌝ }
 {
     if w == 1 {
-        convolve_lines(src, dst, 1, 1, h * 4, weights, mode);
+        convolve_lines(src, dst, 1, 1, lines * lanes, weights, mode);
     } else {
-        convolve_lines(src, dst, h, w, 4, weights, mode);
+        convolve_lines(src, dst, lines, w, lanes, weights, mode);
     }
 }
 
-// A level convolved: rows to scratch, then columns back.
+// A level convolved, in any form: rows to scratch, then columns back.
+pub fn convolve_form(
+    picture: &mut [u8],
+    scratch: &mut [u8],
+    s: LevelSize,
+    form: Form,
+    weights: &[f32],
+    mode: EdgeMode,
+)
+    requires { ⌜ Formed form ⌝ ∗ ⌜ Sized s ⌝ ∗ ⌜ length (now picture) ≡ formBytes form (s .w) (s .h) ⌝ ∗ ⌜ length (now scratch) ≡ formBytes form (s .w) (s .h) ⌝ ∗ ⌜ Kernel (now weights) ⌝ }
+    ensures { λ _. ⌜ now (picture .exit) ≡ formPass form (convolve mode (now (weights .entry))) s s (now (picture .entry)) ⌝ }
+{
+    let w = s.width();
+    let h = s.height();
+    convolve_rows(
+        picture,
+        scratch,
+        w,
+        form.planes * h,
+        form.lanes,
+        weights,
+        mode,
+    );
+    convolve_lines(
+        scratch,
+        picture,
+        form.planes,
+        h,
+        w * form.lanes,
+        weights,
+        mode,
+    );
+}
+
+// A level of pixels convolved.
 pub fn convolve_level(
     picture: &mut [u8],
     scratch: &mut [u8],
@@ -201,8 +245,15 @@ pub fn convolve_level(
     requires { ⌜ Sized s ⌝ ∗ ⌜ length (now picture) ≡ levelBytes s ⌝ ∗ ⌜ length (now scratch) ≡ levelBytes s ⌝ ∗ ⌜ Kernel (now weights) ⌝ }
     ensures { λ _. ⌜ now (picture .exit) ≡ levelPass (convolve mode (now (weights .entry))) s s (now (picture .entry)) ⌝ }
 {
-    let w = s.width();
-    let h = s.height();
-    convolve_rows(picture, scratch, w, h, weights, mode);
-    convolve_lines(scratch, picture, 1, h, 4 * w, weights, mode);
+    convolve_form(
+        picture,
+        scratch,
+        s,
+        Form {
+            planes: 1,
+            lanes: 4,
+        },
+        weights,
+        mode,
+    );
 }

@@ -4,4 +4,5 @@ pub mod Planes
 pub mod Local
 pub mod OneWide
 pub mod Relates
+pub mod Forms
 pub mod Levels

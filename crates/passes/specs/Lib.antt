@@ -3,4 +3,5 @@ pub mod Passes
 pub mod Kernel
 pub mod Blur
 pub mod Levels
+pub mod Forms
 pub mod Written

@@ -1,6 +1,7 @@
--- Rows of one pixel become what one line of one element does.
-use mathlib.Core.Path.{_≡_, sym, _∙_}
+-- Rows of one element become what one line of one element does.
+use mathlib.Core.Path.{_≡_, sym, ap, _∙_}
 use Prim.Native.Nat.{ℕ, _*_}
+use native.Mathlib.Nat.{one-mul, mul-pos}
 use native.Mathlib.Omega.{arith}
 use borrow.Author.Needs.{needs}
 use denote.Ref.{now}
@@ -11,26 +12,26 @@ use Rattle.passes.proofs.OneWide.{one-wide}
 use Rattle.convolve.proofs.convolve_rows.Statement.{statement}
 use Rattle.convolve.proofs.convolve_rows.Tie as tie
 
--- the bytes of rows of one pixel
-narrow : (w h n : ℕ) → w ≡ 1 → n ≡ h * (w * 4) → n ≡ h * 4
-narrow w h n e l = l ∙ rw e
+-- the bytes of rows of one element
+narrow : (w lines lanes n : ℕ) → w ≡ 1 → n ≡ lines * (w * lanes) → n ≡ lines * lanes
+narrow w lines lanes n e l = l ∙ ap (λ (k : ℕ). lines * k) (ap (λ (k : ℕ). k * lanes) e ∙ one-mul lanes)
 
 mul-convolve-lines : tie.Need-mul-convolve-lines
 mul-convolve-lines c =
     let s = c .before .before .before .before .before in
-    omega (arith, narrow (s .args .w) (s .args .h) _ (c .before .if1 .taken) (s .pre .1 .src-size), s .good .0 .0)
+    omega (arith, narrow (s .args .w) (s .args .lines) (s .args .lanes) _ (c .before .if1 .taken) (s .pre .1 .src-size), s .good .0 .0)
 
 convolve-lines-requires : tie.Need-convolve-lines-requires
 convolve-lines-requires c κs =
     let s = c .before .before .before .before .before in
     let p = s .pre .1 in
-    let size = narrow (s .args .w) (s .args .h) in
+    let size = narrow (s .args .w) (s .args .lines) (s .args .lanes) in
     let e = c .before .if1 .taken in
     record {
       kernel = p .kernel;
       len-low = omega arith;
       len-high = omega (arith, room-is);
-      stride-low = omega (arith, s .pre .0);
+      stride-low = mul-pos (s .pre .0) (p .stride-low);
       src-size = omega (arith, size _ e (p .src-size));
       dst-size = omega (arith, size _ e (p .dst-size));
     }
@@ -41,7 +42,7 @@ returns c =
     let s = t .before .before .before .before .before .before in
     let a = s .args in
     let e : a .w ≡ 1 = t .before .before .if1 .taken in
-    rw e (t .convolve-lines .ensures ∙ sym (one-wide (convolve (a .mode) (now (a .weights))) (convolve-local (a .mode) (now (a .weights))) (now (a .src)) (a .h) 4))
+    rw e (t .convolve-lines .ensures ∙ sym (one-wide (convolve (a .mode) (now (a .weights))) (convolve-local (a .mode) (now (a .weights))) (now (a .src)) (a .lines) (a .lanes)))
 
 pub convolve-rows-spec : {M : Type 1} → statement M
 convolve-rows-spec =
