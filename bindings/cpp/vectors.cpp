@@ -19,7 +19,9 @@ template <class S, class... A> constexpr bool made_of = makes<S, void, A...>::va
 static_assert(made_of<cr::blur_settings, cr::kernel, cr::decimations, cr::strength, cr::edge>);
 static_assert(!made_of<cr::blur_settings, cr::kernel, cr::strength, cr::decimations, cr::edge>);
 static_assert(!made_of<cr::blur_settings, cr::kernel, cr::decimations, cr::edge, cr::strength>);
-static_assert(!made_of<cr::blur_settings, cr::kernel, int, float, int>);
+static_assert(!made_of<cr::blur_settings, cr::kernel, std::uint32_t, cr::strength, cr::edge>);
+static_assert(!made_of<cr::blur_settings, cr::kernel, cr::decimations, float, cr::edge>);
+static_assert(!made_of<cr::blur_settings, cr::kernel, cr::decimations, cr::strength, std::uint32_t>);
 static_assert(made_of<cr::shadow_settings, cr::blur_settings, cr::offset, cr::colour, cr::composite>);
 static_assert(!made_of<cr::shadow_settings, cr::blur_settings, cr::colour, cr::offset, cr::composite>);
 static_assert(!std::is_convertible_v<cr::const_bytes, cr::bytes>);
@@ -188,6 +190,22 @@ answer weighed(const vector &v, lent &by, cr::worker *worker)
     return refused(made, call, {1, 2, 3}).value_or(call);
 }
 
+// A blur, a shift or a shadow once more, as a list of one recipe: the same number and bytes, but that a list lends a copy
+// too. A kernel that is refused when it is made is in no list.
+bool same_as_list(const vector &v, cr::worker &worker)
+{
+    const auto made = cr::kernel::make(weights_of(v));
+    if (v.entry > 3 || (v.entry != 2 && !made)) return true;
+    const cr::blur_settings blur{*made, cr::decimations{v.n}, cr::strength{v.strength}, v.edge};
+    const cr::shadow_settings shadow{blur, {v.dx, v.dy}, v.colour, static_cast<cr::composite>(v.composite)};
+    const cr::kernel_row first{0};
+    const std::array list{v.entry == 1   ? cr::blur_recipe(first, blur)
+                          : v.entry == 2 ? cr::shift_recipe({v.dx, v.dy})
+                                         : cr::shadow_recipe(first, shadow)};
+    std::vector<std::uint8_t> picture = v.before.bytes;
+    return worker.recipes(picture, v.size, list, made->row()).number() == v.answer && picture == v.after.bytes;
+}
+
 // A list of recipes, of 13 words each.
 answer chained(const vector &v, lent &by, cr::worker *worker)
 {
@@ -338,7 +356,7 @@ bool agrees(const vector &v, cr::worker &worker)
     if (v.answer == CORBELRUSH_TOO_SHORT) return true; // a worker has room
     by = v.before;
     const answer kept = call(v, by, &worker);
-    return kept.number == v.answer && kept.out == v.out && by.bytes == after.bytes;
+    return kept.number == v.answer && kept.out == v.out && by.bytes == after.bytes && same_as_list(v, worker);
 }
 
 int main()

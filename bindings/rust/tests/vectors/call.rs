@@ -61,6 +61,24 @@ impl<'a> Call<'a> {
         Outcome { number: first, out, by: v.before.clone() }
     }
 
+    /// A blur, a shift or a shadow as a list of one recipe: the same number and bytes as the single call's. Where a value is
+    /// refused when it is made there is no such list.
+    pub fn as_list(v: &'a Vector, worker: &'a mut Worker) -> Option<(u32, Vec<u8>)> {
+        let mut call = Call { v, by: v.before.clone(), out: [0; 4], refused: Vec::new(), worker: None };
+        let (size, edge) = (call.size(), call.edge());
+        let good = Kernel::new(&[1.0]).unwrap();
+        let kernel = if v.entry == 2 { good } else { call.or(Kernel::new(&call.weights()), good) };
+        let blur = Blur { kernel: &kernel, decimations: v.n, strength: v.strength, edge };
+        let recipe = match v.entry {
+            1 => Recipe::blur(0, blur),
+            2 => Recipe::shift(v.dx, v.dy),
+            3 => Recipe::shadow(0, Shadow { blur, dx: v.dx, dy: v.dy, colour: v.colour, composite: v.composite }),
+            _ => return None,
+        };
+        let answered = worker.recipes(&mut call.by.bytes, size, &[recipe], &[kernel.row()]).map_err(Refusal::from);
+        call.refused.is_empty().then(|| (number(answered), call.by.bytes))
+    }
+
     fn answered(&mut self) -> Answered {
         match self.v.entry {
             1 | 3 | 23 | 25 => self.weighed(),

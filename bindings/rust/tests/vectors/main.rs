@@ -31,8 +31,11 @@ fn every_vector_through_the_binding() {
         // A worker has room, so that nothing is refused as 3 there.
         if wanted.number != Refusal::TooShort.number() {
             let kept = Call::outcome(&vector, Some(&mut worker));
-            let made = (kept.number, kept.out, kept.by.bytes);
-            assert_eq!(made, (wanted.number, wanted.out, wanted.by.bytes), "vector {count}, with a worker");
+            assert_eq!((kept.number, kept.out), (wanted.number, wanted.out), "vector {count}, with a worker");
+            assert_eq!(kept.by.bytes, wanted.by.bytes, "vector {count}, with a worker");
+            if let Some(listed) = Call::as_list(&vector, &mut worker) {
+                assert_eq!(listed, (wanted.number, wanted.by.bytes), "vector {count}, as a list");
+            }
         }
         entries.insert(vector.entry);
     }
