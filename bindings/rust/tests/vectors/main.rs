@@ -19,8 +19,8 @@ fn wanted(v: &Vector, made: &Outcome) -> Outcome {
 #[test]
 fn every_vector_through_the_binding() {
     let root = concat!(env!("CARGO_MANIFEST_DIR"), "/../..");
-    let mut text = read_to_string(format!("{root}/crates/replay/stdin")).unwrap();
-    text += &read_to_string(format!("{root}/oracle/lists.txt")).unwrap_or_default();
+    let stored = |file| read_to_string(format!("{root}/{file}")).unwrap();
+    let text = stored("crates/replay/stdin") + &stored("oracle/lists.txt");
     let (mut worker, mut entries, mut count) = (Worker::new(), BTreeSet::new(), 0);
     for line in text.lines() {
         let vector = stored::read(line);
@@ -39,5 +39,8 @@ fn every_vector_through_the_binding() {
         }
         entries.insert(vector.entry);
     }
-    println!("{count} vectors of {} functions", entries.len());
+    let functions =
+        stored("include/corbelrush.h").lines().filter(|line| line.starts_with("uint32_t corbelrush_")).count();
+    assert_eq!(entries.len(), functions, "a function has no vector");
+    println!("{count} vectors of {functions} functions");
 }
