@@ -28,6 +28,7 @@ typedef struct {
 
 static Space spaces[SPACES];
 static uint8_t *stack_room;
+static long page;
 static uint8_t alternate[64 * 1024];
 static const char *case_name = "no call yet";
 static uint64_t case_seed, case_index;
@@ -85,6 +86,7 @@ void *lend_start(void)
         protect(at + GUARD + ROOM, GUARD, PROT_NONE);
         spaces[i].base = at + GUARD;
     }
+    page = sysconf(_SC_PAGESIZE);
     return stack_room = map(STACK_ROOM);
 }
 
@@ -92,7 +94,7 @@ size_t lend_stack(const void *frame)
 {
     stack_t stack = {.ss_sp = alternate, .ss_size = sizeof alternate};
     struct sigaction action = {.sa_sigaction = faulted, .sa_flags = SA_SIGINFO | SA_ONSTACK};
-    size_t left = (size_t)((const uint8_t *)frame - stack_room), over = left % (size_t)sysconf(_SC_PAGESIZE);
+    size_t left = (size_t)((const uint8_t *)frame - stack_room), over = left % (size_t)page;
     protect(stack_room, left - over - STACK_PROMISED, PROT_NONE);
     sigaltstack(&stack, NULL);
     sigaction(SIGSEGV, &action, NULL);
@@ -108,10 +110,17 @@ static uint8_t *canaries(const Space *s, size_t *count)
     return s->upper ? s->at - *count : s->at + s->bytes;
 }
 
+/* The pages that a space's lent bytes lie on, read-only or not. */
+static void seal(const Space *s, int how)
+{
+    uint8_t *from = s->at - (uintptr_t)s->at % (uintptr_t)page;
+    if (s->sealed && s->bytes > 0) protect(from, (size_t)(s->at + s->bytes - from), how);
+}
+
 static void *place(Space *s, const uint8_t *content, size_t bytes, int written)
 {
     size_t count;
-    if (s->sealed) protect(s->base, ROOM, PROT_READ | PROT_WRITE);
+    seal(s, PROT_READ | PROT_WRITE);
     s->bytes = bytes;
     s->upper = bytes == 0 || below(2);
     s->at = s->upper ? s->base + ROOM - bytes : s->base;
@@ -120,7 +129,7 @@ static void *place(Space *s, const uint8_t *content, size_t bytes, int written)
     uint8_t *open = canaries(s, &count);
     memset(open, s->canary, count);
     memcpy(s->at, content, bytes);
-    if (s->sealed) protect(s->base, ROOM, PROT_READ);
+    seal(s, PROT_READ);
     return bytes == 0 && chance(2) ? NULL : s->at;
 }
 
