@@ -1,5 +1,6 @@
 -- The edge rules, and samples of a line. A coordinate is a pair (c, d) of naturals that stands for c - d.
-use Prim.Native.Nat.{ℕ, _+_, _-_, _*_, _%_, _<_, _≤_}
+use mathlib.Core.Path.{_≡_}
+use Prim.Native.Nat.{ℕ, _+_, _-_, _*_, _%_, _^_, _<_, _≤_}
 use mathlib.Core.Bool.{cond}
 use lib.Dec.{ltb}
 use Rattle.picture.specs.Planes.{Line}
@@ -41,6 +42,14 @@ sample mode s line c d = valueAt (place mode s c d) line
 abbrev pub Below : At → ℕ → Type 0
 Below (Inside i) s = i < s
 Below Outside s = Unit
+
+-- i is the element of s that stands at a place, if it is one of them at all
+abbrev pub Reads : At → ℕ → ℕ → Type 0
+Reads p s i = i < s → p ≡ Inside i
+
+-- i is c - d, modulo 2^64
+abbrev pub Difference : ℕ → ℕ → ℕ → Type 0
+Difference i c d = (i + d) % 2 ^ 64 ≡ c
 
 -- coordinates are worked out below this, 2^33: each signed 32-bit one, and each pixel's with its taps
 abbrev pub farthest : ℕ
