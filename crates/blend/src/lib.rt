@@ -4,7 +4,7 @@ ghost use Prim.Native.Nat.{_+_, _*_, _/_, _≤_, _<_, _^_};
 ghost use lib.ListN.{length};
 ghost use Rattle.picture.specs.Sizes.{sideRoom};
 ghost use Rattle.picture.specs.Spans.{Run};
-ghost use Rattle.edges.specs.Edges.{place, Reach};
+ghost use Rattle.edges.specs.Edges.{Reach};
 ghost use Rattle.passes.specs.Passes.{halve, double};
 ghost use Rattle.passes.specs.Written.{lane};
 ghost use Rattle.pixels.specs.Pixels.{pixelFrom};
@@ -20,19 +20,6 @@ use picture::Pixel;
 struct Tap {
     at: usize,
     weight: u16,
-}
-
-// The place that the coordinate c - d reads. Most lie inside, where every edge rule says the same.
-fn find_place(c: usize, d: usize, s: usize, mode: EdgeMode) -> At
-    requires { ⌜ Reach s c d ⌝ }
-    ensures { λ r. ⌜ r ≡ place mode s c d ⌝ }
-{
-    if d <= c {
-        if c - d < s {
-            return At::Inside(c - d);
-        }
-    }
-    extend(c, d, s, mode)
 }
 
 // The bytes of a place of the line at start, in a weight. Outside they are the line's first, in weight 0, so that a loop over lanes has no branch.
@@ -118,7 +105,7 @@ fn sample_pixel(src: &[u8], start: usize, len: usize, c: usize, d: usize, mode: 
     requires { ⌜ Reach len c d × (start + len * 4 ≤ length (now src)) ⌝ }
     ensures { λ r. ⌜ r ≡ samplePixel mode len (now (src .entry)) start c d ⌝ }
 {
-    let p = find_place(c, d, len, mode);
+    let p = extend(c, d, len, mode);
     match p {
         At::Inside(i) => read_pixel(src, start, i),
         At::Outside => Pixel {
@@ -168,10 +155,10 @@ pub fn halve_element(
     requires { ⌜ (x < 2 * sideRoom) × Room (now src) (now dst) start stride len o 1 ⌝ }
     ensures { λ _. ⌜ Run 0 (now (dst .entry)) (now (dst .exit)) o stride (λ k. halve mode len (lane (now (src .entry)) start stride k) x) ⌝ }
 {
-    let a = find_place(2 * x, 1, len, mode);
-    let b = find_place(2 * x, 0, len, mode);
-    let c = find_place(2 * x + 1, 0, len, mode);
-    let d = find_place(2 * x + 2, 0, len, mode);
+    let a = extend(2 * x, 1, len, mode);
+    let b = extend(2 * x, 0, len, mode);
+    let c = extend(2 * x + 1, 0, len, mode);
+    let d = extend(2 * x + 2, 0, len, mode);
     blend_element(src, a, b, c, d, start, stride, dst, o);
 }
 
@@ -190,12 +177,12 @@ pub fn double_element(
     ensures { λ _. ⌜ Run 0 (now (dst .entry)) (now (dst .exit)) o stride (λ k. double mode len (lane (now (src .entry)) start stride k) y) ⌝ }
 {
     let x = y / 2;
-    let b = find_place(x, 0, len, mode);
+    let b = extend(x, 0, len, mode);
     if y % 2 == 0 {
-        let a = find_place(x, 1, len, mode);
+        let a = extend(x, 1, len, mode);
         blend_element(src, a, b, b, a, start, stride, dst, o);
     } else {
-        let c = find_place(x + 1, 0, len, mode);
+        let c = extend(x + 1, 0, len, mode);
         blend_element(src, c, b, b, c, start, stride, dst, o);
     }
 }

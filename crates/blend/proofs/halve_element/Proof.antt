@@ -10,35 +10,35 @@ use Rattle.blend.proofs.Outputs.{halved}
 use Rattle.blend.proofs.halve_element.Statement.{statement}
 use Rattle.blend.proofs.halve_element.Tie as tie
 
-mul-find-place : tie.Need-mul-find-place
-mul-find-place c = omega (arith, room-is)
+mul-extend : tie.Need-mul-extend
+mul-extend c = omega (arith, room-is)
 
-find-place-requires : tie.Need-find-place-requires
-find-place-requires c κs = omega (arith, room-is)
+extend-requires : tie.Need-extend-requires
+extend-requires c κs = omega (arith, room-is)
 
-mul-find-place-2 : tie.Need-mul-find-place-2
-mul-find-place-2 c = omega (arith, room-is)
+mul-extend-2 : tie.Need-mul-extend-2
+mul-extend-2 c = omega (arith, room-is)
 
-find-place-requires-2 : tie.Need-find-place-requires-2
-find-place-requires-2 c κs = omega (arith, room-is)
+extend-requires-2 : tie.Need-extend-requires-2
+extend-requires-2 c κs = omega (arith, room-is)
 
-mul-find-place-3 : tie.Need-mul-find-place-3
-mul-find-place-3 c = omega (arith, room-is)
+mul-extend-3 : tie.Need-mul-extend-3
+mul-extend-3 c = omega (arith, room-is)
 
-add-find-place : tie.Need-add-find-place
-add-find-place c = omega (arith, room-is)
+add-extend : tie.Need-add-extend
+add-extend c = omega (arith, room-is)
 
-find-place-requires-3 : tie.Need-find-place-requires-3
-find-place-requires-3 c κs = omega (arith, room-is)
+extend-requires-3 : tie.Need-extend-requires-3
+extend-requires-3 c κs = omega (arith, room-is)
 
-mul-find-place-4 : tie.Need-mul-find-place-4
-mul-find-place-4 c = omega (arith, room-is)
+mul-extend-4 : tie.Need-mul-extend-4
+mul-extend-4 c = omega (arith, room-is)
 
-add-find-place-2 : tie.Need-add-find-place-2
-add-find-place-2 c = omega (arith, room-is)
+add-extend-2 : tie.Need-add-extend-2
+add-extend-2 c = omega (arith, room-is)
 
-find-place-requires-4 : tie.Need-find-place-requires-4
-find-place-requires-4 c κs = omega (arith, room-is)
+extend-requires-4 : tie.Need-extend-requires-4
+extend-requires-4 c κs = omega (arith, room-is)
 
 blend-element-requires : tie.Need-blend-element-requires
 blend-element-requires c κs =
@@ -49,7 +49,7 @@ blend-element-requires c κs =
     let st = t1 .before .before .before in
     let a = st .args in
     places-room (a .mode) (st .pre .1) (2 * a .x) 1 (2 * a .x) 0 (2 * a .x + 1) 0 (2 * a .x + 2) 0
-    (t1 .find-place .ensures) (t2 .find-place2 .ensures) (t3 .find-place3 .ensures) (t4 .find-place4 .ensures)
+    (t1 .extend .ensures) (t2 .extend2 .ensures) (t3 .extend3 .ensures) (t4 .extend4 .ensures)
 
 same-length : tie.Need-same-length
 same-length c = c .before .before .blend-element .kept .1 .1 .1 .1 .1 .1 .1 .0
@@ -64,22 +64,22 @@ returns c =
     let a = t1 .before .before .before .args in
     span-same (b .blend-element .ensures)
     (λ k _ _.
-    halved (a .mode) (a .len) (a .x) (lane (now (a .src)) (a .start) (a .stride) k) (t1 .find-place .ensures) (t2 .find-place2 .ensures) (t3 .find-place3 .ensures) (t4 .find-place4 .ensures))
+    halved (a .mode) (a .len) (a .x) (lane (now (a .src)) (a .start) (a .stride) k) (t1 .extend .ensures) (t2 .extend2 .ensures) (t3 .extend3 .ensures) (t4 .extend4 .ensures))
 
 pub halve-element-spec : {M : Type 1} → statement M
 halve-element-spec =
     tie.close
     (tie.spec
-    mul-find-place
-    find-place-requires
-    mul-find-place-2
-    find-place-requires-2
-    mul-find-place-3
-    add-find-place
-    find-place-requires-3
-    mul-find-place-4
-    add-find-place-2
-    find-place-requires-4
+    mul-extend
+    extend-requires
+    mul-extend-2
+    extend-requires-2
+    mul-extend-3
+    add-extend
+    extend-requires-3
+    mul-extend-4
+    add-extend-2
+    extend-requires-4
     blend-element-requires
     same-length
     returns)

@@ -16,7 +16,7 @@ placed : (c : tie.After-known-told) →
     let f = c .before .before .before in
     let a = f .before .before .args in
     place (a .mode) (a .len) (a .c) (a .d) ≡ Inside (c .before .p .given .0 .0)
-placed c = sym (c .before .before .before .find-place .ensures) ∙ c .before .p .given .1
+placed c = sym (c .before .before .before .extend .ensures) ∙ c .before .p .given .1
 
 read-pixel-requires : tie.Need-read-pixel-requires
 read-pixel-requires c κs =
@@ -36,7 +36,7 @@ returns-2 : tie.Need-returns-2
 returns-2 c =
     let f = c .before .before in
     let a = f .before .before .args in
-    sampled-outside (a .mode) (a .len) (now (a .src)) (a .start) (a .c) (a .d) (sym (f .find-place .ensures) ∙ c .enum-told .given .1)
+    sampled-outside (a .mode) (a .len) (now (a .src)) (a .start) (a .c) (a .d) (sym (f .extend .ensures) ∙ c .enum-told .given .1)
 
 pub sample-pixel-spec : {M : Type 1} → statement M
 sample-pixel-spec =
