@@ -31,7 +31,6 @@ CALL(plate_start) { return corbelrush_plate_start(LENT(MAIN), c->version, out[0]
 CALL(plate_add) { return corbelrush_plate_add(LENT(MAIN), c->used, LENT(SECOND), c->w, c->h, c->unit, c->sheet, out[0]); }
 CALL(pam_read) { return corbelrush_pam_read(LENT(MAIN), LENT(SECOND), out[0], out[1], out[2]); }
 CALL(pam_write) { return corbelrush_pam_write(PICTURE, LENT(SECOND), out[0], out[1]); }
-#ifdef CORBELRUSH_HAS_28
 CALL(to_planes) { return UNUSED, corbelrush_to_planes(PICTURE, LENT(SECOND)); }
 CALL(from_planes) { return UNUSED, corbelrush_from_planes(PICTURE, LENT(SECOND)); }
 CALL(blur_planes) { return UNUSED, corbelrush_blur_planes(PICTURE, LENT(SECOND), LENT(KERNEL), c->n, c->strength, c->edge); }
@@ -41,7 +40,6 @@ CALL(shadow_planes)
     return UNUSED, corbelrush_shadow_planes(PICTURE, LENT(SECOND), LENT(THIRD), LENT(KERNEL), c->n, c->edge, COLOURED);
 }
 CALL(recipes) { return corbelrush_recipes(PICTURE, LENT(SECOND), LENT(THIRD), LENT(LIST), LENT(KERNEL), out[0]); }
-#endif
 
 /* Elements by buffer, which of them are written, the answered numbers' bytes, and bits of the numbers that are returned. */
 #define ROW(name, draw, ...) {#name, draw, rule_##name, call_##name, __VA_ARGS__}
@@ -76,14 +74,12 @@ const Function functions[] = {
     ROW(plate_add, draw_plate_add, {1, 1}, {1}, {8}, TO_2 | BIT(10) | BIT(13)),
     ROW(pam_read, draw_pam_read, {1, 1}, {0, 1}, {4, 4, 8}, BIT(0) | BIT(3) | BIT(15)),
     ROW(pam_write, draw_pam_write, {1, 1}, {0, 1}, {8, 8}, TO_3 | BIT(16)),
-#ifdef CORBELRUSH_HAS_28
     ROW(to_planes, draw_convert, {1, 1}, {0, 1}, {0}, TO_3),
     ROW(from_planes, draw_convert, {1, 1}, {0, 1}, {0}, TO_3),
     ROW(blur_planes, draw_blur, {1, 1, 0, 4}, {1, 1}, {0}, BLURS),
     ROW(shift_planes, draw_shift, {1}, {1}, {0}, TO_2 | BIT(7)),
     ROW(shadow_planes, draw_shadow, {1, 1, 1, 4}, {1, 1, 1}, {0}, BLURS | BIT(8)),
     ROW(recipes, draw_recipes, {1, 1, 1, 4, 52}, {1, 1, 1}, {8}, BLURS | BIT(8) | BIT(19)),
-#endif
 };
 
 const unsigned function_count = sizeof functions / sizeof *functions;

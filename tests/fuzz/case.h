@@ -29,9 +29,7 @@ typedef union {
     uint32_t words[ROOM / 4];
     corbelrush_change changes[ROOM / 8];
     corbelrush_point points[ROOM / 16];
-#ifdef CORBELRUSH_HAS_28
     corbelrush_recipe recipes[ROOM / 52];
-#endif
 } Content;
 
 /* What each buffer holds before the call; and, once a rule has run, what it must hold afterwards. */

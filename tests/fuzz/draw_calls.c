@@ -167,7 +167,6 @@ void draw_convert(Case *c)
     spoil(c, SIDES | LENGTH | SECOND_SHORT);
 }
 
-#ifdef CORBELRUSH_HAS_28
 static void spoil_recipe(corbelrush_recipe *r, uint32_t kernels)
 {
     float odd = PICK_FLOAT(2.0f, -1.0f, NAN, INFINITY);
@@ -205,4 +204,3 @@ void draw_recipes(Case *c)
     for (size_t i = 0; i < c->count[LIST]; i++) draw_recipe(c, &before[LIST].recipes[i]);
     spoil(c, SIDES | LENGTH | SECOND_SHORT | THIRD_SHORT);
 }
-#endif

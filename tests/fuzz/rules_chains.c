@@ -1,7 +1,5 @@
 /* Rules 21 and 22: four planes, and lists of recipes. */
 #include "rules.h"
-
-#ifdef CORBELRUSH_HAS_28
 #include <math.h>
 #include <string.h>
 
@@ -86,4 +84,3 @@ uint32_t rule_recipes(Case *c)
     works_cleared(c, 1);
     return 0;
 }
-#endif
