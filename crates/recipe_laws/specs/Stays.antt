@@ -9,6 +9,7 @@ use denote.Triple.Entry.{Args}
 use lib.Ieee.{Float}
 use Rattle.picture.specs.Planes.{chan}
 use Rattle.exact_blur.specs.Demand.{LentBytes}
+use Rattle.premultiplied.specs.Rule.{UnderAlpha}
 use Rattle.premultiplied.specs.Stays.{KeepsPremultiplied}
 use Rattle.recipe_checks.specs.declared.Step.{Step}
 use Rattle.recipe_checks.specs.declared.Chained.{Chained}
@@ -18,13 +19,10 @@ use Rattle.recipes.proofs.recipes as entry
 use Rattle.face_recipes.proofs.Promised as face-promise
 use Rattle.face_recipes.proofs.corbelrush_recipes as face
 
--- r, g and b of each pixel are at most its alpha
-abbrev pub NoneExceeds : ℕ → ℕ → List ℕ → Type 0
-NoneExceeds w h p = (c x y : ℕ) → c < 3 → x < w → y < h → chan p w c x y ≤ chan p w 3 x y
-
--- of a call that was lent the picture `before`, of w by h pixels, and left it as `after`
+-- of a call that was lent the picture `before`, of w by h pixels, and left it as `after`: where r, g and b of each pixel were at most its alpha, they are
 abbrev pub LeavesNone : ℕ → ℕ → List ℕ → List ℕ → Type 0
-LeavesNone w h before after = LentBytes before → NoneExceeds w h before → NoneExceeds w h after
+LeavesNone w h before after =
+    LentBytes before → UnderAlpha w h before → (c x y : ℕ) → c < 3 → x < w → y < h → chan after w c x y ≤ chan after w 3 x y
 
 pub record ListStays : Type 0 where
   -- what good recipes make of a picture, one after the other
