@@ -44,10 +44,6 @@ reciprocals = build 256 reciprocal
 abbrev pub anewAt : (ℕ → ℕ → ℕ) → List ℕ → ℕ → ℕ
 anewAt f bytes j = recolouredChannel f (j % 4) (getD bytes (4 * (j / 4) + j % 4) 0) (getD bytes (4 * (j / 4) + 3) 0)
 
--- what a pixel's bytes are multiplied by inward: its alpha, and 255 for the alpha itself
-abbrev pub factorsOf : Pixel → Pixel
-factorsOf p = record { r = p .a; g = p .a; b = p .a; a = 255 }
-
 -- what byte j is multiplied by inward: its pixel's alpha, and 255 where it is the alpha
 abbrev pub factorAt : List ℕ → ℕ → ℕ
 factorAt bytes j = cond (eqb (j % 4) 3) 255 (getD bytes (4 * (j / 4) + 3) 0)

@@ -10,29 +10,26 @@ ghost use lib.ListN.{length, getD};
 ghost use Rattle.picture.specs.Build.{build};
 ghost use Rattle.picture.specs.Sizes.{fullBytes, Pictured};
 ghost use Rattle.pixels.specs.Channels.{premultiply};
-ghost use Rattle.pam_convert.specs.Straight.{anewAt, factorsOf, factorAt, imported};
+ghost use Rattle.pam_convert.specs.Straight.{anewAt, factorAt, imported};
 
-// What a pixel's bytes are multiplied by: its alpha, and 255 for the alpha itself, which stays. They are made in one word, which is stored at once.
-fn factors_of(p: Pixel) -> Pixel
-    ensures { λ r. ⌜ r ≡ factorsOf p ⌝ }
-{
-    let word = p.a as u32 * 65793 + 4278190080;
-    Pixel {
-        r: (word % 256) as u8,
-        g: (word / 256 % 256) as u8,
-        b: (word / 65536 % 256) as u8,
-        a: (word / 16777216) as u8,
-    }
-}
-
-// The same of n pixels.
+// What the bytes of n pixels are multiplied by: their alpha, and 255 for the alpha itself, which stays.
 fn write_factors(factors: &mut [u8], body: &[u8], n: usize)
     requires { ⌜ length (now body) ≡ 4 * n ⌝ ∗ ⌜ length (now factors) ≡ 4 * n ⌝ }
     ensures { λ _. ⌜ now (factors .exit) ≡ build (4 * n) (factorAt (now (body .entry))) ⌝ }
 {
     let mut i = 0;
     while i < n {
-        set_pixel(factors, i, factors_of(pixel_at(body, i)));
+        let a = pixel_at(body, i).a;
+        set_pixel(
+            factors,
+            i,
+            Pixel {
+                r: a,
+                g: a,
+                b: a,
+                a: 255,
+            },
+        );
         i += 1;
     }
 }

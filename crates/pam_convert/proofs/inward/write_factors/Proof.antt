@@ -1,5 +1,5 @@
 -- The first i pixels of the factors are there, and the others are as they were.
-use mathlib.Core.Path.{_≡_, ap, _∙_}
+use mathlib.Core.Path.{_≡_, ap}
 use mathlib.Core.Bool.{cond}
 use mathlib.Core.List.{append-nil}
 use Prim.Native.Nat.{_-_}
@@ -7,8 +7,8 @@ use native.Mathlib.Omega.{arith}
 use borrow.Author.Needs.{needs}
 use lib.Dec.{eqb}
 use lib.Seq.{drop-length}
+use Rattle.picture.specs.declared.Pixel.{Pixel}
 use Rattle.pixels.proofs.Painting.{at, Painting, begins, turn}
-use Rattle.pam_convert.specs.Straight.{factorsOf}
 use Rattle.pam_convert.proofs.inward.write_factors.Statement.{statement}
 use Rattle.pam_convert.proofs.inward.write_factors.Tie as tie
 
@@ -24,10 +24,11 @@ loop-holds c = begins
 loop-again : tie.Need-loop-again Inv-loop μ-loop
 loop-again c =
     let set = c .before .before in
-    let call = set .before in
-    let read = call .before in
-    let at = read .before .before .before in
-    turn (at .loop .inv) (call .factors-of .result) (omega arith) (omega arith) (set .set-pixel .ensures) (call .factors-of .ensures ∙ ap factorsOf (read .pixel-at .ensures))
+    let read = set .before .before in
+    let at = read .before .before in
+    let a = read .pixel-at .result .a in
+    turn (at .loop .inv) (record { r = a; g = a; b = a; a = 255 }) (omega arith) (omega arith) (set .set-pixel .ensures)
+    (ap (λ (p : Pixel). record { r = p .a; g = p .a; b = p .a; a = 255 }) (read .pixel-at .ensures))
 
 returns : tie.Need-returns Inv-loop μ-loop
 returns c =
@@ -43,7 +44,6 @@ write-factors-spec =
     Inv-loop
     μ-loop
     loop-holds
-    (λ c κs. search needs)
     (λ c κs. search needs)
     (λ c κs. search needs)
     (λ c. search needs)
