@@ -1,4 +1,4 @@
-//! The binding's words and limits beside those of the header for C.
+//! The binding's names, words and limits beside those of the header for C.
 use corbelrush::*;
 use std::fs::read_to_string;
 
@@ -44,4 +44,28 @@ fn the_same_limits() {
     }
     let version = ["MAJOR", "MINOR", "PATCH"].map(|part| limit(&header, &format!("VERSION_{part}")).to_string());
     assert_eq!(version.join("."), env!("CARGO_PKG_VERSION"));
+}
+
+/// Whether the header has the number under this name, spelt as C spells it.
+fn numbered(header: &str, name: &str, number: u32) -> bool {
+    let spelt = name.chars().fold(String::new(), |text, letter| match letter {
+        'A'..='Z' if !text.is_empty() => text + "_" + &letter.to_string(),
+        _ => text + &letter.to_uppercase().to_string(),
+    });
+    let constant = format!("CORBELRUSH_{spelt} = {number}");
+    header.split_once(&constant).is_some_and(|(_, rest)| !rest.starts_with(|next: char| next.is_ascii_digit()))
+}
+
+#[test]
+fn the_same_numbers() {
+    let header = header();
+    for refusal in Refusal::ALL {
+        assert!(numbered(&header, &format!("{refusal:?}"), refusal.number()), "{refusal:?}");
+    }
+    for edge in [EdgeMode::Duplicate, EdgeMode::Wrap, EdgeMode::Mirror, EdgeMode::None] {
+        assert!(numbered(&header, &format!("{edge:?}"), edge as u32), "{edge:?}");
+    }
+    for unit in [Unit::Milliohm, Unit::Microohm] {
+        assert!(numbered(&header, &format!("{unit:?}"), unit as u32), "{unit:?}");
+    }
 }
