@@ -44,6 +44,9 @@ returns c =
     let e : a .w ≡ 1 = t .before .before .if1 .taken in
     rw e (t .convolve-lines .ensures ∙ sym (one-wide (convolve (a .mode) (now (a .weights))) (convolve-local (a .mode) (now (a .weights))) (now (a .src)) (a .lines) (a .lanes)))
 
+returns-2 : tie.Need-returns-2
+returns-2 c = c .before .before .convolve-lines2 .ensures
+
 pub convolve-rows-spec : {M : Type 1} → statement M
 convolve-rows-spec =
     tie.close
@@ -54,4 +57,4 @@ convolve-rows-spec =
     (λ c. search needs)
     returns
     (λ c. search needs)
-    (λ c. search needs))
+    returns-2)
