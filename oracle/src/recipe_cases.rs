@@ -346,7 +346,32 @@ pub fn stored(random: &mut Random) -> Vec<Case> {
         });
     }
     cases.extend(limits(random));
+    cases.extend(eights(random));
     cases.retain(|case| case.weights.len() <= 3 * MOST_TAPS + 32);
+    cases
+}
+
+/// Lists of eight, which the proved program runs: done, with one bad recipe and with two, and with a frame that is wrong.
+fn eights(random: &mut Random) -> Vec<Case> {
+    let mut cases: Vec<Case> = (0..24)
+        .map(|i| {
+            let operations = operations(random, 8);
+            chain(random, i % 3 + 1, i / 3 % 3 + 1, &operations)
+        })
+        .collect();
+    for (first, second) in OWN.into_iter().flat_map(|a| [(a, a), (a, 9), (19, a)]) {
+        let operations = operations(random, 8);
+        let mut case = chain(random, 2, 2, &operations);
+        spoil(random, &mut case, first);
+        if first != second {
+            spoil(random, &mut case, second);
+        }
+        cases.push(case);
+    }
+    let whole = chain(random, 3, 2, &[BLUR, SHIFT, SHADOW, SHIFT, BLUR, SHADOW, SHIFT, BLUR]);
+    let short = [(23, 24), (24, 23), (24, 24), (25, 26), (0, 0)];
+    cases.extend(short.map(|(scratch, copy)| Case { scratch, copy, ..whole.clone() }));
+    cases.extend([(0, 2), (3, 0), (2, 2), (3, 16385)].map(|(w, h)| Case { w, h, ..whole.clone() }));
     cases
 }
 

@@ -18,7 +18,7 @@ use crate::whole_cases;
 /// Where the vectors are stored: the input of the program that replays them.
 pub const STORED: &str = concat!(env!("CARGO_MANIFEST_DIR"), "/../crates/replay/stdin");
 
-/// Where those of lists of recipes are, which the proved program does not run: NOTES.md says why.
+/// Where lists of another length than eight are, which the proved program does not run: NOTES.md says why.
 pub const LISTS: &str = concat!(env!("CARGO_MANIFEST_DIR"), "/lists.txt");
 
 /// How many leading bytes of a work buffer are zero; the others must be as before.
@@ -275,9 +275,9 @@ fn is_short(case: &Case) -> bool {
     [case.picture.len(), case.other.len(), case.scratch, case.copy].iter().all(|length| *length <= 512) && numbers < 900
 }
 
-/// Writes all vectors, those of lists to a file of their own.
+/// Writes all vectors, lists of another length to a file of their own.
 pub fn store_all() -> bool {
-    let is_list = |case: &Case| case.entry == Entry::Recipes;
+    let is_list = |case: &Case| case.entry == Entry::Recipes && case.list.len() != 8 * recipe_cases::WORDS;
     let (lists, others) = cases().into_iter().partition(is_list);
     store(STORED, others) && store(LISTS, lists)
 }

@@ -129,12 +129,13 @@ fn report_mends(input: &[u8]) {
     print_count(b"rebuild", count(input, 16));
 }
 
-fn report_planes(input: &[u8]) {
+fn report_chains(input: &[u8]) {
     print_count(b"to planes", count(input, 21));
     print_count(b"from planes", count(input, 22));
     print_count(b"blur on planes", count(input, 23));
     print_count(b"shift on planes", count(input, 24));
     print_count(b"shadow on planes", count(input, 25));
+    print_count(b"list of recipes", count(input, 26));
 }
 
 fn report_words(input: &[u8]) {
@@ -153,7 +154,7 @@ fn report(input: &[u8]) {
     report_images(input);
     report_mends(input);
     report_words(input);
-    report_planes(input);
+    report_chains(input);
     print_totals(count(input, 0));
 }
 

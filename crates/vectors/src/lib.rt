@@ -18,6 +18,7 @@ pub fn agrees(v: &[u64]) -> bool {
         15 | 16 => vector_lists::agrees(v),
         17 => vector_wholes::agrees(v),
         18..=20 => vector_areas::agrees(v),
+        26 => vector_recipes::agrees(v),
         27 | 28 => vector_shares::agrees(v),
         _ => false,
     }
