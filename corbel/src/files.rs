@@ -1,0 +1,66 @@
+//! Files read and written: standard input and output where none is named, and results that are there whole or not at all.
+use crate::failure::{usage, Failure};
+use std::fs::{self, File};
+use std::io::{self, IsTerminal, Read, Write};
+use std::path::{Path, PathBuf};
+use std::process;
+
+/// The longest file that the library takes, and one byte more, so that a longer one is told from it.
+const MOST: u64 = 4 * (corbelrush::MAX_SIDE as u64).pow(2) + corbelrush::PAM_HEADER as u64 + 1;
+
+/// All bytes of a file, or of standard input.
+pub fn read(name: Option<&str>) -> Result<Vec<u8>, Failure> {
+    let mut bytes = Vec::new();
+    let Some(name) = name else {
+        let input = io::stdin();
+        if input.is_terminal() {
+            return usage("standard input is a terminal, and a file is wanted there");
+        }
+        input.lock().take(MOST).read_to_end(&mut bytes).map_err(|error| system("standard input", error))?;
+        return Ok(bytes);
+    };
+    let whole = File::open(name).and_then(|file| file.take(MOST).read_to_end(&mut bytes));
+    whole.map_err(|error| system(name, error))?;
+    Ok(bytes)
+}
+
+/// Writes a result to standard output, or to a file.
+pub fn write(name: Option<&str>, bytes: &[u8]) -> Result<(), Failure> {
+    let Some(name) = name else {
+        let mut output = io::stdout().lock();
+        return output.write_all(bytes).and_then(|()| output.flush()).map_err(|error| system("standard output", error));
+    };
+    write_whole(Path::new(name), bytes).map_err(|error| system(name, error))
+}
+
+/// A file is written under a temporary name beside it and renamed; what is no plain file is written as it is. A link is
+/// followed.
+fn write_whole(name: &Path, bytes: &[u8]) -> io::Result<()> {
+    let name = fs::canonicalize(name).unwrap_or_else(|_| name.to_path_buf());
+    if fs::metadata(&name).is_ok_and(|found| !found.is_file()) {
+        return fs::OpenOptions::new().write(true).open(&name)?.write_all(bytes);
+    }
+    let mut temporary = name.clone().into_os_string();
+    temporary.push(format!(".corbel-{}", process::id()));
+    let temporary = PathBuf::from(temporary);
+    let written = File::create_new(&temporary)
+        .and_then(|mut file| file.write_all(bytes).and_then(|()| file.sync_all()))
+        .and_then(|()| fs::rename(&temporary, &name));
+    if written.is_err() {
+        // Nothing is left behind; that the file could not be written is what is said.
+        let _ = fs::remove_file(&temporary);
+    }
+    written
+}
+
+/// So many bytes of zeros, where there is memory for them.
+pub fn room(length: usize) -> Result<Vec<u8>, Failure> {
+    let mut bytes = Vec::new();
+    bytes.try_reserve_exact(length).map_err(|_| Failure::System(format!("no memory for {length} bytes")))?;
+    bytes.resize(length, 0);
+    Ok(bytes)
+}
+
+fn system(name: &str, error: io::Error) -> Failure {
+    Failure::System(format!("{name}: {error}"))
+}

@@ -1,0 +1,60 @@
+//! What `--help` says.
+
+pub const ALL: &str = "\
+usage: corbel COMMAND [OPTIONS] [FILE]
+
+Filters and questions for pictures of contact resistance, by the proved library Corbelrush. `corbel COMMAND --help` has
+a command's options, and `man corbel` the rest.
+
+";
+
+pub const COMMON: &str = "
+FILE is an image file (PAM, RGB_ALPHA, maximum 255); without it, or as -, standard input is read.
+  -o FILE      the result goes there, under a temporary name first, and not to standard output
+Options may be cut short, and are written -n=2, -n 2 or --n=2.
+
+Exit status: 0 done, 1 refused, 2 wrong use, 3 something could not be read or written.
+";
+
+pub const PICTURES: &str = "\
+  -from=KIND   the samples of FILE: straight (not premultiplied, as netpbm has them) or stored (premultiplied already)
+  -to=KIND     those of the result; both are straight unless this page says otherwise
+";
+
+pub const KERNEL: &str = "\
+  -weights=LIST   1 to 33 weights: 1,4,6,4,1/16 is each over 16; decimals as 0.25,0.5,0.25 too
+  -n=N            decimations, 0 to 14; 0 unless given
+  -edge=RULE      beyond the borders: duplicate (the nearest pixel), wrap, mirror, none (zeros); duplicate unless given
+";
+
+pub const BLUR: &str = "\
+usage: corbel blur -weights=LIST [-n=N] [-edge=RULE] [-strength=S] [-whole] [OPTIONS] [FILE]
+
+Blurs a picture: N halvings, the weights in rows and in columns, N doublings.
+  -strength=S     a switch: at or below 0 the picture stays as it is; 1 unless given
+  -whole          in whole numbers alone, to the same bytes; weights are multiples of 1/65536 and sum to at most 1
+";
+
+pub const SHIFT: &str = "\
+usage: corbel shift [-dx=X] [-dy=Y] [OPTIONS] [FILE]
+
+Moves a picture by X to the right and Y down, each to the nearest whole number. Zeros come in.
+";
+
+pub const SHADOW: &str = "\
+usage: corbel shadow -weights=LIST [-n=N] [-edge=RULE] [-strength=S] [-dx=X] [-dy=Y] [-colour=R,G,B,A] [-alone]
+                     [OPTIONS] [FILE]
+
+Draws a picture over its drop shadow: its alpha moved and blurred, in a colour.
+  -dx=X, -dy=Y    where the shadow lies, to the right and down; 0 unless given
+  -colour=R,G,B,A each 0 to 1, not premultiplied; 0,0,0,1 unless given
+  -strength=S     a switch: at or below 0 the shadow is not blurred; 1 unless given
+  -alone          the shadow alone
+";
+
+pub const CHECK: &str = "\
+usage: corbel check [-from=KIND] [-o FILE] [FILE]
+
+Says 'premultiplied', or which pixel is the first of which r, g or b exceeds a; then the exit status is 1. FILE is
+stored unless -from says otherwise: of straight samples no picture exceeds.
+";

@@ -1,0 +1,101 @@
+//! `corbel`: the graders' program. It reads, calls the library, writes and explains; the library decides.
+mod check;
+mod failure;
+mod files;
+mod filter;
+mod help;
+mod numbers;
+mod options;
+mod picture;
+mod step;
+mod weights;
+
+use failure::{usage, Failure};
+use options::Options;
+use picture::{READS, WRITES};
+use std::process::ExitCode;
+
+/// A command: its name, what it is for, the parts of its help, its options and what it does.
+struct Command {
+    name: &'static str,
+    says: &'static str,
+    help: &'static [&'static str],
+    options: &'static [&'static [&'static str]],
+    run: fn(&Options) -> Result<(), Failure>,
+}
+
+const COMMANDS: &[Command] = &[
+    Command {
+        name: "blur",
+        says: "blurs a picture",
+        help: &[help::BLUR, help::KERNEL, help::PICTURES],
+        options: &[step::BLUR, READS, WRITES],
+        run: |options| filter::run("blur", options),
+    },
+    Command {
+        name: "shift",
+        says: "moves a picture",
+        help: &[help::SHIFT, help::PICTURES],
+        options: &[step::SHIFT, READS, WRITES],
+        run: |options| filter::run("shift", options),
+    },
+    Command {
+        name: "shadow",
+        says: "draws a picture over its drop shadow",
+        help: &[help::SHADOW, help::KERNEL, help::PICTURES],
+        options: &[step::SHADOW, READS, WRITES],
+        run: |options| filter::run("shadow", options),
+    },
+    Command {
+        name: "check",
+        says: "says whether a picture is premultiplied",
+        help: &[help::CHECK],
+        options: &[READS, &["o="]],
+        run: check::run,
+    },
+];
+
+fn main() -> ExitCode {
+    let arguments: Result<Vec<String>, _> =
+        std::env::args_os().skip(1).map(|argument| argument.into_string()).collect();
+    let (name, end) = match arguments {
+        Ok(arguments) => command(&arguments),
+        Err(argument) => ("", usage(format!("the argument {} is no UTF-8", argument.to_string_lossy()))),
+    };
+    let Err(failure) = end else { return ExitCode::SUCCESS };
+    if !failure.is_silent() {
+        let space = if name.is_empty() { "" } else { " " };
+        eprintln!("corbel{space}{name}: {failure}");
+    }
+    if let Failure::Usage(_) = failure {
+        eprintln!("corbel{}{name} --help says more", if name.is_empty() { "" } else { " " });
+    }
+    ExitCode::from(failure.status())
+}
+
+/// Finds the command, and runs it. Its name may be two words.
+fn command(arguments: &[String]) -> (&'static str, Result<(), Failure>) {
+    let is = |word: &str, at: usize| arguments.get(at).is_some_and(|argument| argument == word);
+    for command in COMMANDS {
+        let words: Vec<_> = command.name.split(' ').collect();
+        if words.iter().enumerate().all(|(at, word)| is(word, at)) {
+            return (command.name, ran(command, &arguments[words.len()..]));
+        }
+    }
+    let text = || -> String { COMMANDS.iter().map(|known| format!("  {:12} {}\n", known.name, known.says)).collect() };
+    let end = match arguments.first().map(String::as_str) {
+        Some("--help" | "-help") => files::write(None, (help::ALL.to_string() + &text()).as_bytes()),
+        Some("--version" | "-version") => files::write(None, b"corbel 1.0.0\n"),
+        Some(other) => usage(format!("there is no command '{other}'")),
+        None => usage("a command is missing"),
+    };
+    ("", end)
+}
+
+/// Its help, or what it does.
+fn ran(command: &Command, arguments: &[String]) -> Result<(), Failure> {
+    if arguments.iter().any(|argument| argument == "--help" || argument == "-help") {
+        return files::write(None, (command.help.concat() + help::COMMON).as_bytes());
+    }
+    (command.run)(&Options::read(arguments, command.options)?)
+}
