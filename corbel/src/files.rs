@@ -1,7 +1,7 @@
 //! Files read and written: standard input and output where none is named, and results that are there whole or not at all.
 use crate::failure::{usage, Failure};
 use std::fs::{self, File};
-use std::io::{self, IsTerminal, Read, Write};
+use std::io::{self, BufRead, BufReader, BufWriter, IsTerminal, Read, Write};
 use std::path::{Path, PathBuf};
 use std::process;
 
@@ -24,27 +24,45 @@ pub fn read(name: Option<&str>) -> Result<Vec<u8>, Failure> {
     Ok(bytes)
 }
 
+/// The lines of a text, read as they are asked for.
+pub fn lines(name: &str) -> Result<impl Iterator<Item = Result<String, Failure>> + '_, Failure> {
+    let file = File::open(name).map_err(|error| system(name, error))?;
+    Ok(BufReader::new(file).lines().map(move |line| line.map_err(|error| system(name, error))))
+}
+
 /// Writes a result to standard output, or to a file.
 pub fn write(name: Option<&str>, bytes: &[u8]) -> Result<(), Failure> {
-    let Some(name) = name else {
-        let mut output = io::stdout().lock();
-        return output.write_all(bytes).and_then(|()| output.flush()).map_err(|error| system("standard output", error));
+    write_by(name, |output| output.write_all(bytes))
+}
+
+/// Writes a result part by part, so that it is not held whole.
+pub fn write_by(name: Option<&str>, parts: impl FnOnce(&mut dyn Write) -> io::Result<()>) -> Result<(), Failure> {
+    let written = match name {
+        None => to(io::stdout().lock(), parts).map(drop),
+        Some(name) => whole(Path::new(name), parts),
     };
-    write_whole(Path::new(name), bytes).map_err(|error| system(name, error))
+    written.map_err(|error| system(name.unwrap_or("standard output"), error))
+}
+
+/// The parts, all of them, into an output.
+fn to<T: Write>(output: T, parts: impl FnOnce(&mut dyn Write) -> io::Result<()>) -> io::Result<T> {
+    let mut buffer = BufWriter::new(output);
+    parts(&mut buffer)?;
+    buffer.into_inner().map_err(|error| error.into_error())
 }
 
 /// A file is written under a temporary name beside it and renamed; what is no plain file is written as it is. A link is
 /// followed.
-fn write_whole(name: &Path, bytes: &[u8]) -> io::Result<()> {
+fn whole(name: &Path, parts: impl FnOnce(&mut dyn Write) -> io::Result<()>) -> io::Result<()> {
     let name = fs::canonicalize(name).unwrap_or_else(|_| name.to_path_buf());
     if fs::metadata(&name).is_ok_and(|found| !found.is_file()) {
-        return fs::OpenOptions::new().write(true).open(&name)?.write_all(bytes);
+        return to(fs::OpenOptions::new().write(true).open(&name)?, parts).map(drop);
     }
     let mut temporary = name.clone().into_os_string();
     temporary.push(format!(".corbel-{}", process::id()));
     let temporary = PathBuf::from(temporary);
     let written = File::create_new(&temporary)
-        .and_then(|mut file| file.write_all(bytes).and_then(|()| file.sync_all()))
+        .and_then(|file| to(file, parts)?.sync_all())
         .and_then(|()| fs::rename(&temporary, &name));
     if written.is_err() {
         // Nothing is left behind; that the file could not be written is what is said.

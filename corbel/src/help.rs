@@ -16,6 +16,10 @@ Options may be cut short, and are written -n=2, -n 2 or --n=2.
 Exit status: 0 done, 1 refused, 2 wrong use, 3 something could not be read or written.
 ";
 
+pub const FROM: &str = "\
+  -from=KIND   the samples of FILE: straight (not premultiplied, as netpbm has them) or stored (premultiplied already)
+";
+
 pub const PICTURES: &str = "\
   -from=KIND   the samples of FILE: straight (not premultiplied, as netpbm has them) or stored (premultiplied already)
   -to=KIND     those of the result; both are straight unless this page says otherwise
@@ -57,4 +61,35 @@ usage: corbel check [-from=KIND] [-o FILE] [FILE]
 
 Says 'premultiplied', or which pixel is the first of which r, g or b exceeds a; then the exit status is 1. FILE is
 stored unless -from says otherwise: of straight samples no picture exceeds.
+";
+
+pub const MEND: &str = "\
+usage: corbel mend -list=LIST [OPTIONS] [FILE]
+
+Lowers each r, g or b above its alpha to that alpha, and changes no other byte. FILE and the result are stored unless
+-from and -to say otherwise.
+  -list=LIST   the place y * w + x and the old pixel of each pixel changed go there, a line each
+";
+
+pub const UNMEND: &str = "\
+usage: corbel unmend -list=LIST [OPTIONS] [FILE]
+
+Puts back the old pixels of a list: of a mended picture and its list, the picture as it was. FILE and the result are
+stored unless -from and -to say otherwise.
+  -list=LIST   what mend wrote
+";
+
+pub const MEAN: &str = "\
+usage: corbel mean [-box=X,Y,W,H] [-from=KIND] [-o FILE] [FILE]
+
+The sum of the alphas of a box, how many pixels it has, and their mean, as an exact fraction and as a decimal.
+  -box=X,Y,W,H W columns from X on and H rows from Y on, at most 16843009 pixels; all of the picture unless given
+";
+
+pub const SPREAD: &str = "\
+usage: corbel spread -weights=LIST [-n=N] [-o FILE]
+
+How far a blur with these weights and N decimations spreads a pixel along an axis: in 1/131072 of a square pixel, as a
+variance in square pixels, exact and as a decimal, and as a sigma in pixels. It is the check of a kernel: weights that
+do not sum to 1, or are no multiples of 1/65536, are refused as 11.
 ";

@@ -1,12 +1,16 @@
 //! `corbel`: the graders' program. It reads, calls the library, writes and explains; the library decides.
 mod check;
+mod exact;
 mod failure;
 mod files;
 mod filter;
 mod help;
+mod mean;
+mod mend;
 mod numbers;
 mod options;
 mod picture;
+mod spread;
 mod step;
 mod weights;
 
@@ -52,6 +56,34 @@ const COMMANDS: &[Command] = &[
         help: &[help::CHECK],
         options: &[READS, &["o="]],
         run: check::run,
+    },
+    Command {
+        name: "mend",
+        says: "lowers each colour above its alpha to that alpha, and lists what it changed",
+        help: &[help::MEND, help::PICTURES],
+        options: &[&["list="], READS, WRITES],
+        run: mend::run,
+    },
+    Command {
+        name: "unmend",
+        says: "puts back what mend changed",
+        help: &[help::UNMEND, help::PICTURES],
+        options: &[&["list="], READS, WRITES],
+        run: mend::undo,
+    },
+    Command {
+        name: "mean",
+        says: "the mean alpha of a box",
+        help: &[help::MEAN, help::FROM],
+        options: &[&["box="], READS, &["o="]],
+        run: mean::run,
+    },
+    Command {
+        name: "spread",
+        says: "how far a blur spreads a pixel",
+        help: &[help::SPREAD],
+        options: &[&["weights=", "n=", "o="]],
+        run: spread::run,
     },
 ];
 
