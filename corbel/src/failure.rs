@@ -9,8 +9,10 @@ pub enum Failure {
     No,
     /// The arguments, or a text that they name, cannot be understood.
     Usage(String),
-    /// Something could not be read or written.
+    /// Something could not be read or written; the text names it.
     System(String),
+    /// One of some files failed.
+    Of(String, Box<Failure>),
 }
 
 impl Failure {
@@ -19,6 +21,15 @@ impl Failure {
             Failure::Refused(..) | Failure::No => 1,
             Failure::Usage(_) => 2,
             Failure::System(_) => 3,
+            Failure::Of(_, failure) => failure.status(),
+        }
+    }
+
+    /// With the file's name, where it is not named already.
+    pub fn of(self, file: &str) -> Failure {
+        match self {
+            Failure::System(_) => self,
+            other => Failure::Of(file.to_string(), Box::new(other)),
         }
     }
 
@@ -40,6 +51,7 @@ impl fmt::Display for Failure {
                 }
             }
             Failure::Usage(text) | Failure::System(text) => f.write_str(text),
+            Failure::Of(file, failure) => write!(f, "{file}: {failure}"),
             Failure::No => Ok(()),
         }
     }

@@ -9,7 +9,7 @@ a command's options, and `man corbel` the rest.
 ";
 
 pub const COMMON: &str = "
-FILE is an image file (PAM, RGB_ALPHA, maximum 255); without it, or as -, standard input is read.
+An image file is a PAM file, RGB_ALPHA, maximum 255. Without FILE, or as -, standard input is read.
   -o FILE      the result goes there, under a temporary name first, and not to standard output
 Options may be cut short, and are written -n=2, -n 2 or --n=2.
 
@@ -18,6 +18,11 @@ Exit status: 0 done, 1 refused, 2 wrong use, 3 something could not be read or wr
 
 pub const FROM: &str = "\
   -from=KIND   the samples of FILE: straight (not premultiplied, as netpbm has them) or stored (premultiplied already)
+";
+
+pub const TO: &str = "\
+  -to=KIND     the samples of the result: straight (not premultiplied) or stored (as the plate has them); straight
+               unless given
 ";
 
 pub const PICTURES: &str = "\
@@ -92,4 +97,41 @@ usage: corbel spread -weights=LIST [-n=N] [-o FILE]
 How far a blur with these weights and N decimations spreads a pixel along an axis: in 1/131072 of a square pixel, as a
 variance in square pixels, exact and as a decimal, and as a sigma in pixels. It is the check of a kernel: weights that
 do not sum to 1, or are no multiples of 1/65536, are refused as 11.
+";
+
+pub const LIST: &str = "\
+usage: corbel plate list [-o FILE] [FILE]
+
+The version of a plate, and for each picture its sides, where it lies, its unit and its sheet. Of a file that is no
+plate it says which rule is broken, and at which byte.
+";
+
+pub const PACK: &str = "\
+usage: corbel plate pack -units=LIST [-sheets=LIST] [-version=V] [-from=KIND] [-o FILE] [FILE ...]
+
+A plate of the pictures in some image files, in that order.
+  -version=V   1 (no units, no sheets), 2, or 3, for larger scans; 2 unless given
+  -units=LIST  milliohm or microohm: one for all, or one for each with commas between them
+  -sheets=LIST the number of the sheet, in the same way; 0 unless given
+";
+
+pub const GET: &str = "\
+usage: corbel plate get -index=I [-to=KIND] [-o FILE] [FILE]
+
+A picture of a plate as an image file.
+  -index=I     which, counted from 0
+";
+
+pub const JOB: &str = "\
+usage: corbel plate job [-o FILE] [FILE]
+
+Blurs every picture of a plate where it lies, with weights 1/4, 1/2, 1/4, one decimation and the nearest pixel beyond
+the borders; its table stays as it was, units and sheets too.
+";
+
+pub const REPORT: &str = "\
+usage: corbel report [-o FILE] [FILE]
+
+For each picture of a plate its sides, its unit and its sheet, whether it is premultiplied or which pixel is the first
+that exceeds its alpha, and its mean alpha, exact and as a decimal.
 ";

@@ -1,5 +1,6 @@
 //! `corbel`: the graders' program. It reads, calls the library, writes and explains; the library decides.
 mod check;
+mod diagnose;
 mod exact;
 mod failure;
 mod files;
@@ -10,6 +11,7 @@ mod mend;
 mod numbers;
 mod options;
 mod picture;
+mod plate;
 mod spread;
 mod step;
 mod weights;
@@ -85,6 +87,41 @@ const COMMANDS: &[Command] = &[
         options: &[&["weights=", "n=", "o="]],
         run: spread::run,
     },
+    Command {
+        name: "plate list",
+        says: "lists the pictures of a plate",
+        help: &[help::LIST],
+        options: &[&["o="]],
+        run: plate::list,
+    },
+    Command {
+        name: "plate pack",
+        says: "makes a plate of pictures",
+        help: &[help::PACK, help::FROM],
+        options: &[&["version=", "units=", "sheets=", "o="], READS],
+        run: plate::pack,
+    },
+    Command {
+        name: "plate get",
+        says: "takes a picture out of a plate",
+        help: &[help::GET, help::TO],
+        options: &[&["index="], WRITES],
+        run: plate::get,
+    },
+    Command {
+        name: "plate job",
+        says: "blurs every picture of a plate where it lies",
+        help: &[help::JOB],
+        options: &[&["o="]],
+        run: plate::job,
+    },
+    Command {
+        name: "report",
+        says: "says of each picture of a plate what it is",
+        help: &[help::REPORT],
+        options: &[&["o="]],
+        run: plate::report,
+    },
 ];
 
 fn main() -> ExitCode {
@@ -118,6 +155,7 @@ fn command(arguments: &[String]) -> (&'static str, Result<(), Failure>) {
     let end = match arguments.first().map(String::as_str) {
         Some("--help" | "-help") => files::write(None, (help::ALL.to_string() + &text()).as_bytes()),
         Some("--version" | "-version") => files::write(None, b"corbel 1.0.0\n"),
+        Some("plate") => usage("after plate comes list, pack, get or job"),
         Some(other) => usage(format!("there is no command '{other}'")),
         None => usage("a command is missing"),
     };
