@@ -99,6 +99,16 @@ variance in square pixels, exact and as a decimal, and as a sigma in pixels. It 
 do not sum to 1, or are no multiples of 1/65536, are refused as 11.
 ";
 
+pub const WHY: &str = "\
+usage: corbel why -at=X,Y -weights=LIST [-n=N] [-edge=RULE] [-map=FILE] [-from=KIND] [-o FILE] [FILE]
+
+Which points of a picture made the pixel X,Y of its blur: each with its exact share, and its channels; then what share
+times channel comes to, beside the channel that the blur stores, which is within 2N + 1 of it. The weights are multiples
+of 1/65536 and sum to at most 1, and N is 0 to 3.
+  -at=X,Y         the pixel, column and row counted from 0
+  -map=FILE       the shares as a picture, the greatest white, go there
+";
+
 pub const LIST: &str = "\
 usage: corbel plate list [-o FILE] [FILE]
 

@@ -15,6 +15,7 @@ mod plate;
 mod spread;
 mod step;
 mod weights;
+mod why;
 
 use failure::{usage, Failure};
 use options::Options;
@@ -86,6 +87,13 @@ const COMMANDS: &[Command] = &[
         help: &[help::SPREAD],
         options: &[&["weights=", "n=", "o="]],
         run: spread::run,
+    },
+    Command {
+        name: "why",
+        says: "which points made a pixel of a blur",
+        help: &[help::WHY, help::KERNEL, help::FROM],
+        options: &[&["at=", "weights=", "n=", "edge=", "map=", "o="], READS],
+        run: why::run,
     },
     Command {
         name: "plate list",
