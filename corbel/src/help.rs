@@ -61,6 +61,24 @@ Draws a picture over its drop shadow: its alpha moved and blurred, in a colour.
   -alone          the shadow alone
 ";
 
+pub const SAVE: &str = "\
+  -save=CHAIN  what was done is written there as a chain, for corbel chain
+";
+
+pub const CHAIN: &str = "\
+usage: corbel chain -recipes=CHAIN [-save=CHAIN] [OPTIONS] [FILE]
+
+Runs the operations of a text on a picture, one after the other; all are checked before the first runs. A line is an
+operation with its options, as in
+
+    # lines that begin with # say nothing
+    blur -weights=1,4,6,4,1/16 -n=2 -edge=wrap
+    shift -dx=3 -dy=-2
+    shadow -weights=1,2,1/4 -dx=2 -dy=2 -colour=0,0,0,0.5
+
+  -recipes=CHAIN  that text
+";
+
 pub const CHECK: &str = "\
 usage: corbel check [-from=KIND] [-o FILE] [FILE]
 

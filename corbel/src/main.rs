@@ -1,4 +1,5 @@
 //! `corbel`: the graders' program. It reads, calls the library, writes and explains; the library decides.
+mod chain;
 mod check;
 mod diagnose;
 mod exact;
@@ -35,23 +36,30 @@ const COMMANDS: &[Command] = &[
     Command {
         name: "blur",
         says: "blurs a picture",
-        help: &[help::BLUR, help::KERNEL, help::PICTURES],
-        options: &[step::BLUR, READS, WRITES],
-        run: |options| filter::run("blur", options),
+        help: &[help::BLUR, help::KERNEL, help::PICTURES, help::SAVE],
+        options: &[step::BLUR, &["whole"], filter::COMMON],
+        run: |options| filter::step("blur", options),
     },
     Command {
         name: "shift",
         says: "moves a picture",
-        help: &[help::SHIFT, help::PICTURES],
-        options: &[step::SHIFT, READS, WRITES],
-        run: |options| filter::run("shift", options),
+        help: &[help::SHIFT, help::PICTURES, help::SAVE],
+        options: &[step::SHIFT, filter::COMMON],
+        run: |options| filter::step("shift", options),
     },
     Command {
         name: "shadow",
         says: "draws a picture over its drop shadow",
-        help: &[help::SHADOW, help::KERNEL, help::PICTURES],
-        options: &[step::SHADOW, READS, WRITES],
-        run: |options| filter::run("shadow", options),
+        help: &[help::SHADOW, help::KERNEL, help::PICTURES, help::SAVE],
+        options: &[step::SHADOW, filter::COMMON],
+        run: |options| filter::step("shadow", options),
+    },
+    Command {
+        name: "chain",
+        says: "runs a saved chain of these on a picture",
+        help: &[help::CHAIN, help::PICTURES, help::SAVE],
+        options: &[&["recipes="], filter::COMMON],
+        run: filter::chain,
     },
     Command {
         name: "check",
@@ -144,7 +152,7 @@ fn main() -> ExitCode {
         let space = if name.is_empty() { "" } else { " " };
         eprintln!("corbel{space}{name}: {failure}");
     }
-    if let Failure::Usage(_) = failure {
+    if failure.status() == 2 {
         eprintln!("corbel{}{name} --help says more", if name.is_empty() { "" } else { " " });
     }
     ExitCode::from(failure.status())

@@ -9,10 +9,10 @@ use corbelrush::{blur, blur_whole, shadow, shift, Blur, Colour, EdgeMode, Kernel
 
 /// A blur's options, of which each may be wrong in a way that the library refuses.
 pub struct Blurring {
-    weights: Vec<f32>,
-    n: u32,
-    strength: f32,
-    edge: EdgeMode,
+    pub weights: Vec<f32>,
+    pub n: u32,
+    pub strength: f32,
+    pub edge: EdgeMode,
 }
 
 pub struct WholeBlurring {
@@ -22,11 +22,11 @@ pub struct WholeBlurring {
 }
 
 pub struct Shadowing {
-    blur: Blurring,
-    dx: f32,
-    dy: f32,
-    colour: [f32; 4],
-    alone: bool,
+    pub blur: Blurring,
+    pub dx: f32,
+    pub dy: f32,
+    pub colour: [f32; 4],
+    pub alone: bool,
 }
 
 pub enum Step {
@@ -36,7 +36,8 @@ pub enum Step {
     Shadow(Shadowing),
 }
 
-pub const BLUR: &[&str] = &["weights=", "n=", "edge=", "strength=", "whole"];
+/// What each operation takes, here and in a chain; `-whole` is the command's alone.
+pub const BLUR: &[&str] = &["weights=", "n=", "edge=", "strength="];
 pub const SHIFT: &[&str] = &["dx=", "dy="];
 pub const SHADOW: &[&str] = &["weights=", "n=", "edge=", "strength=", "dx=", "dy=", "colour=", "alone"];
 const EDGES: [(&str, EdgeMode); 4] = [
@@ -45,6 +46,21 @@ const EDGES: [(&str, EdgeMode); 4] = [
     ("mirror", EdgeMode::Mirror),
     ("none", EdgeMode::None),
 ];
+
+/// The options of an operation, as a chain has them; none of one that there is not.
+pub fn known(name: &str) -> &'static [&'static str] {
+    match name {
+        "blur" => BLUR,
+        "shift" => SHIFT,
+        "shadow" => SHADOW,
+        _ => &[],
+    }
+}
+
+/// The name of an edge rule.
+pub fn edge_name(edge: EdgeMode) -> &'static str {
+    EDGES[edge as usize].0
+}
 
 /// The edge rule of an option.
 pub fn edge(options: &Options) -> Result<EdgeMode, Failure> {
@@ -64,6 +80,12 @@ impl WholeBlurring {
     /// Its kernel. Refusals: 4, 14.
     pub fn kernel(&self) -> Result<WholeKernel, Failure> {
         Ok(WholeKernel::new(&self.numerators)?)
+    }
+
+    /// The blur in floats that leaves the same bytes.
+    pub fn as_floats(&self) -> Blurring {
+        let weights = self.numerators.iter().map(|numerator| *numerator as f32 / 65536.0).collect();
+        Blurring { weights, n: self.n, strength: 1.0, edge: self.edge }
     }
 
     pub fn with<'a>(&self, kernel: &'a WholeKernel) -> WholeBlur<'a> {
