@@ -13,6 +13,8 @@ pub enum Failure {
     System(String),
     /// One of some files failed.
     Of(String, Box<Failure>),
+    /// Some of many files failed, each with its own message; the worst of their statuses.
+    Some(u8),
 }
 
 impl Failure {
@@ -22,6 +24,7 @@ impl Failure {
             Failure::Usage(_) => 2,
             Failure::System(_) => 3,
             Failure::Of(_, failure) => failure.status(),
+            Failure::Some(worst) => *worst,
         }
     }
 
@@ -35,7 +38,7 @@ impl Failure {
 
     /// Whether there is anything left to say.
     pub fn is_silent(&self) -> bool {
-        matches!(self, Failure::No)
+        matches!(self, Failure::No | Failure::Some(_))
     }
 }
 
@@ -52,7 +55,7 @@ impl fmt::Display for Failure {
             }
             Failure::Usage(text) | Failure::System(text) => f.write_str(text),
             Failure::Of(file, failure) => write!(f, "{file}: {failure}"),
-            Failure::No => Ok(()),
+            Failure::No | Failure::Some(_) => Ok(()),
         }
     }
 }

@@ -1,16 +1,17 @@
 //! The commands blur, shift, shadow and chain: work on a picture.
 use crate::chain::{self, Chain};
-use crate::failure::Failure;
+use crate::failure::{usage, Failure};
 use crate::files;
+use crate::jobs;
 use crate::options::Options;
 use crate::picture::{Picture, Samples};
 use crate::step::Step;
 
 /// The options of these commands.
-pub const COMMON: &[&str] = &["from=", "to=", "o=", "save="];
+pub const COMMON: &[&str] = &["from=", "to=", "o=", "save=", "jobs"];
 
 /// What is done to a picture.
-pub trait Work {
+pub trait Work: Sync {
     fn run(&self, picture: &mut Picture) -> Result<(), Failure>;
     /// The lines of a chain that does it.
     fn saved(&self) -> String;
@@ -28,21 +29,41 @@ impl Work for Step {
 
 /// One operation.
 pub fn step(name: &str, options: &Options) -> Result<(), Failure> {
-    run(&Step::read(name, options)?, options)
+    run(name, &Step::read(name, options)?, options)
 }
 
 /// Those of a file.
 pub fn chain(options: &Options) -> Result<(), Failure> {
-    run(&Chain::read(options.needed("recipes")?)?, options)
+    run("chain", &Chain::read(options.needed("recipes")?)?, options)
 }
 
-fn run(work: &impl Work, options: &Options) -> Result<(), Failure> {
-    let samples = Samples::of(options, "to", Samples::Straight)?;
-    let mut picture = Picture::read(options, Samples::Straight)?;
-    work.run(&mut picture)?;
-    let result = picture.file(samples)?;
-    if let Some(name) = options.value("save") {
-        files::write(Some(name), work.saved().as_bytes())?;
+fn run(name: &str, work: &impl Work, options: &Options) -> Result<(), Failure> {
+    let kinds = (Samples::of(options, "from", Samples::Straight)?, Samples::of(options, "to", Samples::Straight)?);
+    if !options.has("jobs") {
+        let result = made(work, options.file()?, kinds)?;
+        save(work, options)?;
+        return files::write(options.value("o"), &result);
     }
-    files::write(options.value("o"), &result)
+    let folder = options.value("o").ok_or_else(|| Failure::Usage("-jobs wants a folder: -o FOLDER".to_string()))?;
+    if options.files.is_empty() {
+        return usage("-jobs wants files");
+    }
+    let results = jobs::results(&options.files, folder)?;
+    jobs::run(name, &options.files, |index| {
+        let result = made(work, Some(&options.files[index]), kinds)?;
+        files::write(Some(&results[index]), &result)
+    })?;
+    save(work, options)
+}
+
+/// The image file that the work makes of another.
+fn made(work: &impl Work, name: Option<&str>, (from, to): (Samples, Samples)) -> Result<Vec<u8>, Failure> {
+    let mut picture = Picture::of_file(files::read(name)?, from)?;
+    work.run(&mut picture)?;
+    picture.file(to)
+}
+
+/// The work as a chain, where that is asked for.
+fn save(work: &impl Work, options: &Options) -> Result<(), Failure> {
+    options.value("save").map_or(Ok(()), |name| files::write(Some(name), work.saved().as_bytes()))
 }

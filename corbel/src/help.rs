@@ -61,8 +61,10 @@ Draws a picture over its drop shadow: its alpha moved and blurred, in a colour.
   -alone          the shadow alone
 ";
 
-pub const SAVE: &str = "\
+pub const WORK: &str = "\
   -save=CHAIN  what was done is written there as a chain, for corbel chain
+  -jobs        many files, as many at once as there are cores; -o names the folder for the results, which have the
+               names of the files
 ";
 
 pub const CHAIN: &str = "\

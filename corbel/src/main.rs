@@ -7,12 +7,14 @@ mod failure;
 mod files;
 mod filter;
 mod help;
+mod jobs;
 mod mean;
 mod mend;
 mod numbers;
 mod options;
 mod picture;
 mod plate;
+mod progress;
 mod spread;
 mod step;
 mod weights;
@@ -36,28 +38,28 @@ const COMMANDS: &[Command] = &[
     Command {
         name: "blur",
         says: "blurs a picture",
-        help: &[help::BLUR, help::KERNEL, help::PICTURES, help::SAVE],
+        help: &[help::BLUR, help::KERNEL, help::PICTURES, help::WORK],
         options: &[step::BLUR, &["whole"], filter::COMMON],
         run: |options| filter::step("blur", options),
     },
     Command {
         name: "shift",
         says: "moves a picture",
-        help: &[help::SHIFT, help::PICTURES, help::SAVE],
+        help: &[help::SHIFT, help::PICTURES, help::WORK],
         options: &[step::SHIFT, filter::COMMON],
         run: |options| filter::step("shift", options),
     },
     Command {
         name: "shadow",
         says: "draws a picture over its drop shadow",
-        help: &[help::SHADOW, help::KERNEL, help::PICTURES, help::SAVE],
+        help: &[help::SHADOW, help::KERNEL, help::PICTURES, help::WORK],
         options: &[step::SHADOW, filter::COMMON],
         run: |options| filter::step("shadow", options),
     },
     Command {
         name: "chain",
         says: "runs a saved chain of these on a picture",
-        help: &[help::CHAIN, help::PICTURES, help::SAVE],
+        help: &[help::CHAIN, help::PICTURES, help::WORK],
         options: &[&["recipes="], filter::COMMON],
         run: filter::chain,
     },
@@ -148,12 +150,13 @@ fn main() -> ExitCode {
         Err(argument) => ("", usage(format!("the argument {} is no UTF-8", argument.to_string_lossy()))),
     };
     let Err(failure) = end else { return ExitCode::SUCCESS };
+    let name = format!("corbel {name}");
+    let name = name.trim_end();
     if !failure.is_silent() {
-        let space = if name.is_empty() { "" } else { " " };
-        eprintln!("corbel{space}{name}: {failure}");
+        progress::say(&format!("{name}: {failure}"));
     }
-    if failure.status() == 2 {
-        eprintln!("corbel{}{name} --help says more", if name.is_empty() { "" } else { " " });
+    if matches!(failure, Failure::Usage(_)) {
+        progress::say(&format!("{name} --help says more"));
     }
     ExitCode::from(failure.status())
 }
@@ -183,5 +186,7 @@ fn ran(command: &Command, arguments: &[String]) -> Result<(), Failure> {
     if arguments.iter().any(|argument| argument == "--help" || argument == "-help") {
         return files::write(None, (command.help.concat() + help::COMMON).as_bytes());
     }
-    (command.run)(&Options::read(arguments, command.options)?)
+    let options = Options::read(arguments, command.options)?;
+    let _progress = progress::start(command.name);
+    (command.run)(&options)
 }
