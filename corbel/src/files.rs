@@ -51,11 +51,12 @@ fn to<T: Write>(output: T, parts: impl FnOnce(&mut dyn Write) -> io::Result<()>)
     buffer.into_inner().map_err(|error| error.into_error())
 }
 
-/// A file is written under a temporary name beside it and renamed; what is no plain file is written as it is. A link is
-/// followed.
+/// A file is written under a temporary name beside it and renamed, with the permissions of the one that was there; what is
+/// no plain file is written as it is. A link is followed.
 fn whole(name: &Path, parts: impl FnOnce(&mut dyn Write) -> io::Result<()>) -> io::Result<()> {
     let name = fs::canonicalize(name).unwrap_or_else(|_| name.to_path_buf());
-    if fs::metadata(&name).is_ok_and(|found| !found.is_file()) {
+    let found = fs::metadata(&name);
+    if found.as_ref().is_ok_and(|found| !found.is_file()) {
         return to(fs::OpenOptions::new().write(true).open(&name)?, parts).map(drop);
     }
     let mut temporary = name.clone().into_os_string();
@@ -63,6 +64,7 @@ fn whole(name: &Path, parts: impl FnOnce(&mut dyn Write) -> io::Result<()>) -> i
     let temporary = PathBuf::from(temporary);
     let written = File::create_new(&temporary)
         .and_then(|file| to(file, parts)?.sync_all())
+        .and_then(|()| found.map_or(Ok(()), |found| fs::set_permissions(&temporary, found.permissions())))
         .and_then(|()| fs::rename(&temporary, &name));
     if written.is_err() {
         // Nothing is left behind; that the file could not be written is what is said.

@@ -1,6 +1,6 @@
 //! The commands blur, shift, shadow and chain: work on a picture.
 use crate::chain::{self, Chain};
-use crate::failure::{usage, Failure};
+use crate::failure::Failure;
 use crate::files;
 use crate::jobs;
 use crate::options::Options;
@@ -39,21 +39,8 @@ pub fn chain(options: &Options) -> Result<(), Failure> {
 
 fn run(name: &str, work: &impl Work, options: &Options) -> Result<(), Failure> {
     let kinds = (Samples::of(options, "from", Samples::Straight)?, Samples::of(options, "to", Samples::Straight)?);
-    if !options.has("jobs") {
-        let result = made(work, options.file()?, kinds)?;
-        save(work, options)?;
-        return files::write(options.value("o"), &result);
-    }
-    let folder = options.value("o").ok_or_else(|| Failure::Usage("-jobs wants a folder: -o FOLDER".to_string()))?;
-    if options.files.is_empty() {
-        return usage("-jobs wants files");
-    }
-    let results = jobs::results(&options.files, folder)?;
-    jobs::run(name, &options.files, |index| {
-        let result = made(work, Some(&options.files[index]), kinds)?;
-        files::write(Some(&results[index]), &result)
-    })?;
-    save(work, options)
+    jobs::deliver(name, options, |file| made(work, file, kinds))?;
+    options.value("save").map_or(Ok(()), |chain| files::write(Some(chain), work.saved().as_bytes()))
 }
 
 /// The image file that the work makes of another.
@@ -61,9 +48,4 @@ fn made(work: &impl Work, name: Option<&str>, (from, to): (Samples, Samples)) ->
     let mut picture = Picture::of_file(files::read(name)?, from)?;
     work.run(&mut picture)?;
     picture.file(to)
-}
-
-/// The work as a chain, where that is asked for.
-fn save(work: &impl Work, options: &Options) -> Result<(), Failure> {
-    options.value("save").map_or(Ok(()), |name| files::write(Some(name), work.saved().as_bytes()))
 }

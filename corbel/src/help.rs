@@ -61,8 +61,11 @@ Draws a picture over its drop shadow: its alpha moved and blurred, in a colour.
   -alone          the shadow alone
 ";
 
-pub const WORK: &str = "\
+pub const SAVE: &str = "\
   -save=CHAIN  what was done is written there as a chain, for corbel chain
+";
+
+pub const MANY: &str = "\
   -jobs        many files, as many at once as there are cores; -o names the folder for the results, which have the
                names of the files
 ";
@@ -153,7 +156,7 @@ A picture of a plate as an image file.
 ";
 
 pub const JOB: &str = "\
-usage: corbel plate job [-o FILE] [FILE]
+usage: corbel plate job [-jobs] [-o FILE] [FILE ...]
 
 Blurs every picture of a plate where it lies, with weights 1/4, 1/2, 1/4, one decimation and the nearest pixel beyond
 the borders; its table stays as it was, units and sheets too.

@@ -1,12 +1,31 @@
-//! Many files on all cores.
+//! Results of files: of one, or of many on all cores.
 use crate::failure::{usage, Failure};
+use crate::files;
+use crate::options::Options;
 use crate::progress;
 use std::path::Path;
 use std::sync::atomic::{AtomicU8, AtomicUsize, Ordering::Relaxed};
 use std::thread;
 
+/// Makes the result of a command's file and writes it; with `-jobs` that of each of its files, into a folder.
+pub fn deliver(
+    name: &str,
+    options: &Options,
+    make: impl Fn(Option<&str>) -> Result<Vec<u8>, Failure> + Sync,
+) -> Result<(), Failure> {
+    if !options.has("jobs") {
+        return files::write(options.value("o"), &make(options.file()?)?);
+    }
+    let folder = options.value("o").ok_or_else(|| Failure::Usage("-jobs wants a folder: -o FOLDER".to_string()))?;
+    if options.files.is_empty() {
+        return usage("-jobs wants files");
+    }
+    let results = results(&options.files, folder)?;
+    run(name, &options.files, |index| files::write(Some(&results[index]), &make(Some(&options.files[index]))?))
+}
+
 /// The result of each file, in a folder, under the file's own name.
-pub fn results(files: &[String], folder: &str) -> Result<Vec<String>, Failure> {
+fn results(files: &[String], folder: &str) -> Result<Vec<String>, Failure> {
     let mut results = Vec::new();
     for file in files {
         let Some(name) = Path::new(file).file_name() else {
@@ -22,7 +41,7 @@ pub fn results(files: &[String], folder: &str) -> Result<Vec<String>, Failure> {
 }
 
 /// Does each of some files, as many at once as there are cores. One that fails says so, and the others are done.
-pub fn run(name: &str, files: &[String], work: impl Fn(usize) -> Result<(), Failure> + Sync) -> Result<(), Failure> {
+fn run(name: &str, files: &[String], work: impl Fn(usize) -> Result<(), Failure> + Sync) -> Result<(), Failure> {
     let (next, worst) = (AtomicUsize::new(0), AtomicU8::new(0));
     progress::all(files.len());
     let worker = || loop {

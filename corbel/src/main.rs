@@ -38,28 +38,28 @@ const COMMANDS: &[Command] = &[
     Command {
         name: "blur",
         says: "blurs a picture",
-        help: &[help::BLUR, help::KERNEL, help::PICTURES, help::WORK],
+        help: &[help::BLUR, help::KERNEL, help::PICTURES, help::SAVE, help::MANY],
         options: &[step::BLUR, &["whole"], filter::COMMON],
         run: |options| filter::step("blur", options),
     },
     Command {
         name: "shift",
         says: "moves a picture",
-        help: &[help::SHIFT, help::PICTURES, help::WORK],
+        help: &[help::SHIFT, help::PICTURES, help::SAVE, help::MANY],
         options: &[step::SHIFT, filter::COMMON],
         run: |options| filter::step("shift", options),
     },
     Command {
         name: "shadow",
         says: "draws a picture over its drop shadow",
-        help: &[help::SHADOW, help::KERNEL, help::PICTURES, help::WORK],
+        help: &[help::SHADOW, help::KERNEL, help::PICTURES, help::SAVE, help::MANY],
         options: &[step::SHADOW, filter::COMMON],
         run: |options| filter::step("shadow", options),
     },
     Command {
         name: "chain",
         says: "runs a saved chain of these on a picture",
-        help: &[help::CHAIN, help::PICTURES, help::WORK],
+        help: &[help::CHAIN, help::PICTURES, help::SAVE, help::MANY],
         options: &[&["recipes="], filter::COMMON],
         run: filter::chain,
     },
@@ -129,8 +129,8 @@ const COMMANDS: &[Command] = &[
     Command {
         name: "plate job",
         says: "blurs every picture of a plate where it lies",
-        help: &[help::JOB],
-        options: &[&["o="]],
+        help: &[help::JOB, help::MANY],
+        options: &[&["o=", "jobs"]],
         run: plate::job,
     },
     Command {
@@ -173,7 +173,9 @@ fn command(arguments: &[String]) -> (&'static str, Result<(), Failure>) {
     let text = || -> String { COMMANDS.iter().map(|known| format!("  {:12} {}\n", known.name, known.says)).collect() };
     let end = match arguments.first().map(String::as_str) {
         Some("--help" | "-help") => files::write(None, (help::ALL.to_string() + &text()).as_bytes()),
-        Some("--version" | "-version") => files::write(None, b"corbel 1.0.0\n"),
+        Some("--version" | "-version") => {
+            files::write(None, concat!("corbel ", env!("CARGO_PKG_VERSION"), "\n").as_bytes())
+        }
         Some("plate") => usage("after plate comes list, pack, get or job"),
         Some(other) => usage(format!("there is no command '{other}'")),
         None => usage("a command is missing"),

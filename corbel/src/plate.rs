@@ -2,6 +2,7 @@
 use crate::diagnose::broken;
 use crate::failure::{usage, Failure};
 use crate::files::{self, room};
+use crate::jobs;
 use crate::mean;
 use crate::numbers::{number, option};
 use crate::options::Options;
@@ -56,10 +57,12 @@ pub fn get(options: &Options) -> Result<(), Failure> {
 }
 
 pub fn job(options: &Options) -> Result<(), Failure> {
-    let mut plate = files::read(options.file()?)?;
-    let mut scratch = room(plate.len())?;
-    plate_job(&mut plate, &mut scratch).map_err(|refusal| refused(refusal, &plate))?;
-    files::write(options.value("o"), &plate)
+    jobs::deliver("plate job", options, |file| {
+        let mut plate = files::read(file)?;
+        let mut scratch = room(plate.len())?;
+        plate_job(&mut plate, &mut scratch).map_err(|refusal| refused(refusal, &plate))?;
+        Ok(plate)
+    })
 }
 
 /// The values of an option that has one for all files, or one for each.
