@@ -61,8 +61,6 @@ fn read_step(words: &[String]) -> Result<Step, Failure> {
 pub fn saved(step: &Step) -> String {
     match step {
         Step::Blur(how) => format!("blur {}\n", blur_options(how)),
-        // The same bytes, by the library's own proof, from the blur that a recipe can name.
-        Step::Whole(how) => format!("blur {}\n", blur_options(&how.as_floats())),
         Step::Shift(dx, dy) => format!("shift -dx={dx} -dy={dy}\n"),
         Step::Shadow(Shadowing { blur, dx, dy, colour: [red, green, blue, alpha], alone }) => {
             let (blur, alone) = (blur_options(blur), if *alone { " -alone" } else { "" });
@@ -81,7 +79,6 @@ fn blur_options(how: &Blurring) -> String {
 fn recipe(step: &Step, row: u32) -> (Recipe, [f32; MAX_TAPS]) {
     match step {
         Step::Blur(how) => blur_recipe(how, row),
-        Step::Whole(how) => blur_recipe(&how.as_floats(), row),
         Step::Shift(dx, dy) => (Recipe::shift(*dx, *dy), [0.0; MAX_TAPS]),
         Step::Shadow(how) => {
             let (blur, kernel) = blur_recipe(&how.blur, row);

@@ -5,7 +5,7 @@ use crate::files;
 use crate::jobs;
 use crate::options::Options;
 use crate::picture::{Picture, Samples};
-use crate::step::Step;
+use crate::step::{Step, WholeBlurring};
 
 /// The options of these commands.
 pub const COMMON: &[&str] = &["from=", "to=", "o=", "save=", "jobs"];
@@ -24,6 +24,25 @@ impl Work for Step {
 
     fn saved(&self) -> String {
         chain::saved(self)
+    }
+}
+
+impl Work for WholeBlurring {
+    fn run(&self, picture: &mut Picture) -> Result<(), Failure> {
+        WholeBlurring::run(self, picture)
+    }
+
+    /// Recipes have no blur in whole numbers; that in floats is proved to leave the same bytes.
+    fn saved(&self) -> String {
+        chain::saved(&Step::Blur(self.as_floats()))
+    }
+}
+
+/// The blur, in floats or in whole numbers.
+pub fn blur(options: &Options) -> Result<(), Failure> {
+    match options.has("whole") {
+        true => run("blur", &WholeBlurring::read(options)?, options),
+        false => step("blur", options),
     }
 }
 

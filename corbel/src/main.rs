@@ -40,7 +40,7 @@ const COMMANDS: &[Command] = &[
         says: "blurs a picture",
         help: &[help::BLUR, help::KERNEL, help::PICTURES, help::SAVE, help::MANY],
         options: &[step::BLUR, &["whole"], filter::COMMON],
-        run: |options| filter::step("blur", options),
+        run: filter::blur,
     },
     Command {
         name: "shift",

@@ -40,7 +40,8 @@ fn beside(label: Option<Label>) -> String {
 pub fn list(options: &Options) -> Result<(), Failure> {
     let plate = files::read(options.file()?)?;
     let pictures = pictures(&plate)?;
-    let mut text = format!("version {}, {} pictures, {} bytes\n", plate[0], pictures.len(), plate.len());
+    let mut text = format!("version {}: {} of at most 64 pictures, ", plate[0], pictures.len());
+    text += &format!("{} bytes\n", plate.len());
     for (index, (picture, label)) in pictures.iter().enumerate() {
         let (size, range) = (picture.size, &picture.range);
         text += &format!("picture {index}: {} by {}, ", size.width(), size.height());

@@ -1,4 +1,4 @@
-//! The operations on a picture, blur, shift and shadow: from options, run by the library, and as a line of a chain.
+//! The operations on a picture, blur, shift and shadow, and the blur in whole numbers: from options, and run by the library.
 use crate::failure::{usage, Failure};
 use crate::files::room;
 use crate::numbers::{list, option};
@@ -15,6 +15,7 @@ pub struct Blurring {
     pub edge: EdgeMode,
 }
 
+/// The same of a blur in whole numbers, which no chain has.
 pub struct WholeBlurring {
     numerators: Vec<u32>,
     n: u32,
@@ -31,12 +32,11 @@ pub struct Shadowing {
 
 pub enum Step {
     Blur(Blurring),
-    Whole(WholeBlurring),
     Shift(f32, f32),
     Shadow(Shadowing),
 }
 
-/// What each operation takes, here and in a chain; `-whole` is the command's alone.
+/// What each operation takes, as a command and in a chain.
 pub const BLUR: &[&str] = &["weights=", "n=", "edge=", "strength="];
 pub const SHIFT: &[&str] = &["dx=", "dy="];
 pub const SHADOW: &[&str] = &["weights=", "n=", "edge=", "strength=", "dx=", "dy=", "colour=", "alone"];
@@ -47,7 +47,7 @@ const EDGES: [(&str, EdgeMode); 4] = [
     ("none", EdgeMode::None),
 ];
 
-/// The options of an operation, as a chain has them; none of one that there is not.
+/// The options of an operation; none of one that there is not.
 pub fn known(name: &str) -> &'static [&'static str] {
     match name {
         "blur" => BLUR,
@@ -73,6 +73,9 @@ pub fn edge(options: &Options) -> Result<EdgeMode, Failure> {
 
 impl WholeBlurring {
     pub fn read(options: &Options) -> Result<WholeBlurring, Failure> {
+        if options.has("strength") {
+            return usage("-whole has no strength: it blurs");
+        }
         let numerators = weights::numerators(options.needed("weights")?)?;
         Ok(WholeBlurring { numerators, n: option(options, "n", 0)?, edge: edge(options)? })
     }
@@ -90,6 +93,12 @@ impl WholeBlurring {
 
     pub fn with<'a>(&self, kernel: &'a WholeKernel) -> WholeBlur<'a> {
         WholeBlur { kernel, decimations: self.n, edge: self.edge }
+    }
+
+    /// On a picture, by the library.
+    pub fn run(&self, picture: &mut Picture) -> Result<(), Failure> {
+        let mut scratch = room(picture.bytes.len())?;
+        Ok(blur_whole(&mut picture.bytes, picture.size, &mut scratch, self.with(&self.kernel()?))?)
     }
 }
 
@@ -123,9 +132,7 @@ impl Step {
     /// The operation of that name, with its options.
     pub fn read(name: &str, options: &Options) -> Result<Step, Failure> {
         match name {
-            "blur" if !options.has("whole") => Ok(Step::Blur(Blurring::read(options)?)),
-            "blur" if options.has("strength") => usage("-whole has no strength: it blurs"),
-            "blur" => Ok(Step::Whole(WholeBlurring::read(options)?)),
+            "blur" => Ok(Step::Blur(Blurring::read(options)?)),
             "shift" => Ok(Step::Shift(option(options, "dx", 0.0)?, option(options, "dy", 0.0)?)),
             "shadow" => Ok(Step::Shadow(Shadowing::read(options)?)),
             _ => usage(format!("there is no operation '{name}'")),
@@ -139,7 +146,6 @@ impl Step {
         let length = bytes.len();
         match self {
             Step::Blur(how) => blur(bytes, *size, &mut room(length)?, how.with(&Kernel::new(&how.weights)?)),
-            Step::Whole(how) => blur_whole(bytes, *size, &mut room(length)?, how.with(&how.kernel()?)),
             Step::Shift(dx, dy) => shift(bytes, *size, *dx, *dy),
             Step::Shadow(how) => {
                 let kernel = Kernel::new(&how.blur.weights)?;

@@ -6,7 +6,7 @@ use crate::numbers::list;
 use crate::options::Options;
 use crate::picture::{Picture, Samples};
 use crate::step::WholeBlurring;
-use corbelrush::{blur_whole, shares, Point, Refusal, Size, WholeBlur};
+use corbelrush::{shares, Point, Refusal, Size, WholeBlur};
 
 /// All points that made an output. A short list is tried first, since room for every pixel is four pictures.
 fn points(size: Size, how: WholeBlur, place: u64) -> Result<Vec<Point>, Refusal> {
@@ -69,7 +69,7 @@ pub fn run(options: &Options) -> Result<(), Failure> {
     let mut text = lines(&picture, &points, unit);
     text += &format!("{} points, whose shares come to {all} ({})\n", points.len(), all.decimal());
     let sums: Vec<_> = (0..4).map(|channel| Fraction::of(sum(&picture, &points, channel), unit)).collect();
-    blur_whole(&mut picture.bytes, size, &mut room(size.bytes())?, how)?;
+    blurring.run(&mut picture)?;
     for ((name, sum), stored) in "rgba".chars().zip(sums).zip(picture.pixel(place)) {
         text += &format!("{name}: share times channel comes to {sum} ({}), and {stored} is stored\n", sum.decimal());
     }
