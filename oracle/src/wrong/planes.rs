@@ -179,8 +179,8 @@ fn finite_strength(case: &Case) -> Case {
 
 /// The mistakes of blur and shift.
 const LEAKS: [Wrong; 2] = [
-    ("one tall plane", |case| as_one(case, case.w, 4 * case.h)),
-    ("four planes side by side", |case| as_one(case, 4 * case.w, case.h)),
+    ("one tall plane", |case| as_one(case, case.w, case.h.saturating_mul(4))),
+    ("four planes side by side", |case| as_one(case, case.w.saturating_mul(4), case.h)),
 ];
 
 /// The mistakes of those that are lent a scratch.
