@@ -42,13 +42,15 @@ def ends(scene, x, lines, least=20):
 
 def distance():
     """The distance to the exact blur beside 2n + 1."""
-    scene = headed(860, 576, 'Distance to the exact blur', 'The greatest distance seen, in steps of a channel, and the bound that is proved (docs/DISTANCE.md).')
+    scene = headed(860, 576, 'Distance to the exact blur',
+                   'The greatest distance seen, in steps of a channel, and the bound that is proved (docs/DISTANCE.md).')
     rows = table('DISTANCE.md', '')[1:]
     left, wide, floor, step = 70, 112, 500, 36
     for steps in range(12):
         scene.rect(left, floor - step * steps, wide * (len(rows) - 1), 1, PALE if steps else GREY)
         scene.text(left - 12, floor - step * steps + 5, str(steps), 14, GREY, 'end')
-    names = (('proved: at most 2n + 1', INK), ('a kept line, all modes', PURPLE), ('Duplicate', BLUE), ('Wrap', ORANGE), ('Mirror', GREEN), ('None', RED))
+    names = (('proved: at most 2n + 1', INK), ('kept lines, all modes', PURPLE),
+             ('Duplicate', BLUE), ('Wrap', ORANGE), ('Mirror', GREEN), ('None', RED))
     lines = []
     for column, (name, colour) in reversed(list(enumerate(names, 1))):
         line = [(left + wide * int(row[0]), floor - step * first_number(row[column])) for row in rows]
@@ -86,15 +88,15 @@ def beside_opencv():
     head, *rows = table('PERFORMANCE.md', '## Image files, beside OpenCV')
     before, now, other = (head.index(name) for name in ('before', 'now', 'OpenCV'))
     each = 1e6 / 4096 ** 2
-    return [('image file ' + row[0], each * float(row[before if row[now] == 'as before' else now]), each * float(row[other]), OPENCV)
-            for row in rows]
+    return [('image file ' + row[0], each * float(row[before if row[now] == 'as before' else now]), each * float(row[other]),
+             OPENCV) for row in rows]
 
 
 def speed():
     """Nanoseconds a pixel beside the Rust and OpenCV."""
     lines = beside_rust() + beside_opencv()
     scene = headed(960, 140 + 30 * len(lines) + 84, 'Nanoseconds a pixel, 4096 by 4096',
-                   'Each axis mark is ten times the one before. Arm Neoverse-N1; blurs under Duplicate (docs/PERFORMANCE.md).')
+                   'Each mark is ten times the one before. Arm (Neoverse-N1), blurs under Duplicate (docs/PERFORMANCE.md).')
     left, top, decade, floor = 290, 118, 150, 118 + 30 * len(lines)
     place = lambda value: round(left + decade * (math.log10(value) + 1), 2)
     for power in range(5):
@@ -110,5 +112,6 @@ def speed():
     for at, (words, colour) in enumerate((('the library', LIBRARY), ('the Rust', RUST), ('OpenCV 4.6', OPENCV))):
         scene.disc(left + 6 + 140 * at, 88, 6, colour)
         scene.text(left + 20 + 140 * at, 93, words, 14, colour, bold=True)
-    scene.text(MARGIN, floor + 56, 'OpenCV converts image files and neither checks the picture nor writes a header; its blur was not timed.', 14, GREY)
+    under = 'OpenCV converts image files alone here, with no check and no header; there is no time of its blur.'
+    scene.text(MARGIN, floor + 56, under, 14, GREY)
     return scene

@@ -6,7 +6,7 @@ from corbelrush import Edge
 
 from .scene import GREY, INK, Scene
 
-SIDE, PITCH, FIRST, RADIUS = 48, 14, 3, 6.6
+SIDE, PITCH, FIRST = 48, 14, 3
 RESISTANCE = ((30, 38, 66, 90), (18, 44, 100, 72), (8, 24, 34, 52), (0, 12, 22, 38))
 QUALITY = ((255, 230, 255, 200), (255, 255, 255, 255), (190, 255, 255, 240), (255, 255, 220, 130))
 RAMP = ((58, 170, 80), (250, 200, 30), (224, 44, 40))
@@ -33,24 +33,23 @@ def contact(x, y):
     return min(3, max(0, (x - FIRST + PITCH // 2) // PITCH)), min(3, max(0, (y - FIRST + PITCH // 2) // PITCH))
 
 
-def pixel(x, y):
+def pixel(x, y, radius):
     """Of a sheet of round contacts: the colour is the resistance, alpha the quality, and between contacts there is none."""
     column, row = contact(x, y)
     across, down = x - FIRST - PITCH * column, y - FIRST - PITCH * row
-    inside = min(1.0, max(0.0, RADIUS + 0.5 - math.sqrt(across * across + down * down)))
+    inside = min(1.0, max(0.0, radius + 0.5 - math.sqrt(across * across + down * down)))
     alpha = int(QUALITY[row][column] * inside + 0.5)
     return [(channel * alpha + 127) // 255 for channel in ramp(RESISTANCE[row][column])] + [alpha]
 
 
-def sheet():
-    """The picture of all these figures."""
-    made = bytearray(channel for y in range(SIDE) for x in range(SIDE) for channel in pixel(x, y))
+def sheet(radius=6.4):
+    """The picture of all these figures, with contacts of this radius."""
+    made = bytearray(channel for y in range(SIDE) for x in range(SIDE) for channel in pixel(x, y, radius))
     return memoryview(made).cast('B', (SIDE, SIDE, 4))
 
 
-def worked(work, *given, **named):
-    """The sheet after a call."""
-    made = sheet()
+def worked(work, made, *given, **named):
+    """A picture after a call."""
     work(made, *given, **named)
     return made
 
@@ -94,39 +93,45 @@ def beyond(scene, x, y, scale, mode, margin):
 def edges():
     """The four edge modes side by side."""
     scene = headed(4 * 240 + 3 * GAP + 2 * MARGIN, 655, 'The four edge modes',
-                   'Above: what the blur reads beyond the border (paler). Below: the same sheet blurred with 13 taps, n = 1.')
+                   'Above: what a sample reads beyond the border (paler). Below: the same sheet blurred with 13 taps, n = 1.')
     for at, mode in enumerate((Edge.DUPLICATE, Edge.WRAP, Edge.MIRROR, Edge.NONE)):
         x = MARGIN + at * (240 + GAP)
         scene.text(x, TOP + 16, mode.name.capitalize(), 15, bold=True)
         beyond(scene, x, TOP + 26, 3, mode, 16)
-        panel(scene, x, TOP + 26 + 240 + 14, 5, worked(corbelrush.blur, weights(13), n=1, edge=mode), 'blurred')
+        panel(scene, x, TOP + 26 + 240 + 14, 5, worked(corbelrush.blur, sheet(), weights(13), n=1, edge=mode), 'blurred')
     return scene
 
 
 def decimations():
     """n = 0 to 4."""
     scene = headed(3 * 240 + 2 * GAP + 2 * MARGIN, 655, 'Decimations, n = 0 to 4',
-                   'One sheet of 48 by 48 pixels, blurred with 13 taps under Mirror. Each n about doubles the spread.')
+                   '48 by 48 pixels, 13 taps, under Mirror; beside each n the standard deviation along an axis.')
     panel(scene, MARGIN, TOP, 5, sheet(), 'the sheet')
     for n in range(5):
         x, y = MARGIN + (n + 1) % 3 * (240 + GAP), TOP + (n + 1) // 3 * (240 + 40)
         spread = math.sqrt(corbelrush.spread(weights(13), n) / 131072)
-        panel(scene, x, y, 5, worked(corbelrush.blur, weights(13), n=n, edge=Edge.MIRROR), 'n = %d: %.1f pixels' % (n, spread))
+        blurred = worked(corbelrush.blur, sheet(), weights(13), n=n, edge=Edge.MIRROR)
+        panel(scene, x, y, 5, blurred, 'n = %d: %.1f pixels' % (n, spread))
     return scene
 
 
 def shadow():
     """A shadow alone, and under its picture."""
-    scene = headed(3 * 288 + 2 * GAP + 2 * MARGIN, 424, 'A drop shadow', 'Moved by (3, 4), 13 taps, n = 0 under None, the colour dark blue at alpha 0.7.')
+    scene = headed(3 * 288 + 2 * GAP + 2 * MARGIN, 424, 'A drop shadow',
+                   'Moved by (3, 4), 13 taps, n = 0 under None, the colour dark blue at alpha 0.7.')
     recipe = {'n': 0, 'edge': Edge.NONE, 'dx': 3.0, 'dy': 4.0, 'colour': (0.05, 0.05, 0.3, 0.7)}
-    panel(scene, MARGIN, TOP, 6, sheet(), 'the sheet')
-    panel(scene, MARGIN + 288 + GAP, TOP, 6, worked(corbelrush.shadow, weights(13), composite=False, **recipe), 'its shadow alone')
-    panel(scene, MARGIN + 2 * (288 + GAP), TOP, 6, worked(corbelrush.shadow, weights(13), **recipe), 'the sheet over its shadow')
+    small = 4.6
+    alone = worked(corbelrush.shadow, sheet(small), weights(13), composite=False, **recipe)
+    under = worked(corbelrush.shadow, sheet(small), weights(13), **recipe)
+    shown = (sheet(small), 'small contacts'), (alone, 'their shadow alone'), (under, 'the contacts over it')
+    for at, (picture, words) in enumerate(shown):
+        panel(scene, MARGIN + at * (288 + GAP), TOP, 6, picture, words)
     return scene
 
 
 AMBER = 23, 17
 TAPS, DECIMATIONS = 5, 1
+GROUND = 205, 205, 205
 
 
 def points():
@@ -135,53 +140,55 @@ def points():
     return [(point.place % SIDE, point.place // SIDE, point.share / 2 ** (10 * DECIMATIONS + 32)) for point in listed]
 
 
-def squares(scene, x, y, side, made, source):
+def squares(scene, x, y, cell, made, source):
     """Each point as a square of its own colour, as large as its share; one without contact is grey."""
-    left, top = min(point[0] for point in made), min(point[1] for point in made)
-    cell = side / (max(point[0] for point in made) - left + 1)
-    most = math.sqrt(max(point[2] for point in made))
+    left, top, _ = made[0]
+    most = math.sqrt(max(share for _, _, share in made))
     for across, down, share in made:
         long = (cell - 1) * math.sqrt(share) / most
-        inner = (cell - long) / 2
         here = [source[down, across, channel] for channel in range(4)]
-        colour = tuple(on_white([here])) if here[3] else (205, 205, 205)
+        colour = tuple(on_white([here])) if here[3] else GROUND
+        inner = (cell - long) / 2
         scene.rect(x + (across - left) * cell + inner, y + (down - top) * cell + inner, long, long, colour)
-    scene.frame(x, y, side, side)
+    scene.frame(x + (AMBER[0] - left) * cell, y + (AMBER[1] - top) * cell, cell, cell, INK, 2)
 
 
 def parts(made, source):
-    """How much of the pixel each contact made, the most first, and the ground between them: words and a colour."""
+    """What made the pixel, the most first: how much of it, by whom, and the colour of that."""
     sums = {}
     for x, y, share in made:
         column, row = contact(x, y)
-        key = (ramp(RESISTANCE[row][column]), 'the contact at resistance %d' % RESISTANCE[row][column]) if source[y, x, 3] else ([205] * 3, 'no contact')
-        name = key[1]
-        sums[name] = sums.get(name, (0, tuple(key[0])))[0] + share, tuple(key[0])
-    return sorted(((share, colour, name) for name, (share, colour) in sums.items()), reverse=True)
+        here = RESISTANCE[row][column]
+        maker = 'a contact of resistance %d of 100' % here, tuple(ramp(here))
+        maker = maker if source[y, x, 3] else ('between contacts', GROUND)
+        sums[maker] = sums.get(maker, 0) + share
+    return sorted(((share, *maker) for maker, share in sums.items()), reverse=True)
+
+
+def explained(scene, y, made, source, stands):
+    """The pixel's channels as they stand beside those by shares, and what made the pixel, each with its colour."""
+    exact = [sum(share * source[down, across, channel] for across, down, share in made) for channel in range(4)]
+    lines = [('the pixel is r %d, g %d, b %d, a %d; share times channel, summed, is r %.2f, g %.2f, b %.2f, a %.2f'
+              % (*stands, *exact), tuple(on_white([stands])))]
+    lines += [('%.1f %% of it comes from %s' % (100 * share, name), colour) for share, name, colour in parts(made, source)]
+    for at, (words, colour) in enumerate(lines):
+        scene.rect(MARGIN, y + 24 * at - 13, 16, 16, colour)
+        scene.text(MARGIN + 26, y + 24 * at, words)
 
 
 def shares():
     """One amber pixel, and the points that made it."""
-    scene = headed(3 * 288 + 2 * GAP + 2 * MARGIN, 560, 'Why is this pixel amber?',
+    scene = headed(3 * 288 + 2 * GAP + 2 * MARGIN, 532, 'Why is this pixel amber?',
                    'The shares of one pixel of a blur with %d taps, n = %d, under Mirror.' % (TAPS, DECIMATIONS))
-    source, blurred, made = sheet(), worked(corbelrush.blur, weights(TAPS), n=DECIMATIONS, edge=Edge.MIRROR), points()
-    x, left, top = [MARGIN + at * (288 + GAP) for at in range(3)], made[0][0], made[0][1]
+    source, blurred, made = sheet(), worked(corbelrush.blur, sheet(), weights(TAPS), n=DECIMATIONS, edge=Edge.MIRROR), points()
+    x, y, left, top = [MARGIN + at * (288 + GAP) for at in range(3)], TOP + 26, made[0][0], made[0][1]
     across = made[-1][0] - left + 1
     panel(scene, x[0], TOP, 6, blurred, 'the blurred sheet, and the pixel')
-    scene.frame(x[0] + 6 * AMBER[0], TOP + 26 + 6 * AMBER[1], 6, 6, INK, 2)
-    panel(scene, x[1], TOP, 6, source, 'the sheet, and the points of the pixel')
-    scene.frame(x[1] + 6 * left, TOP + 26 + 6 * top, 6 * across, 6 * across, INK, 2)
+    scene.frame(x[0] + 6 * AMBER[0], y + 6 * AMBER[1], 6, 6, INK, 2)
+    panel(scene, x[1], TOP, 6, source, "the sheet, and the pixel's points")
+    scene.frame(x[1] + 6 * left, y + 6 * top, 6 * across, 6 * across, INK, 2)
     scene.text(x[2], TOP + 16, 'these points: area is share', 15, bold=True)
-    squares(scene, x[2], TOP + 26, 288, made, source)
+    squares(scene, x[2], y, 288 / across, made, source)
+    scene.frame(x[2], y, 288, 288)
     explained(scene, 434, made, source, [blurred[AMBER[1], AMBER[0], channel] for channel in range(4)])
     return scene
-
-
-def explained(scene, y, made, source, stands):
-    """The swatches of what made the pixel, and its channels by shares beside those that stand in the picture."""
-    scene.rect(MARGIN, y - 13, 16, 16, tuple(on_white([stands])))
-    scene.text(MARGIN + 26, y, 'the pixel is r %d, g %d, b %d, a %d; share times channel, summed, is r %.2f, g %.2f, b %.2f, a %.2f' % (
-        *stands, *(sum(share * source[down, across, channel] for across, down, share in made) for channel in range(4))))
-    for at, (share, colour, name) in enumerate(parts(made, source)):
-        scene.rect(MARGIN, y + 24 * (at + 1) - 13, 16, 16, colour)
-        scene.text(MARGIN + 26, y + 24 * (at + 1), '%.1f %% from %s' % (100 * share, name))

@@ -48,4 +48,5 @@ def drawn(scene):
     head = ('<svg xmlns="http://www.w3.org/2000/svg" width="%d" height="%d" viewBox="0 0 %d %d" font-family="Helvetica, Arial, '
             'sans-serif">' % (scene.w, scene.h, scene.w, scene.h))
     items = [DRAW[item[0]](*item[1:]) for item in scene.items]
-    return '\n'.join([head, '<title>%s</title>' % escape(scene.title), '<rect width="100%" height="100%" fill="#ffffff"/>', *items, '</svg>', ''])
+    white = '<rect width="100%" height="100%" fill="#ffffff"/>'
+    return '\n'.join([head, '<title>%s</title>' % escape(scene.title), white, *items, '</svg>', ''])
