@@ -112,6 +112,6 @@ def speed():
     for at, (words, colour) in enumerate((('the library', LIBRARY), ('the Rust', RUST), ('OpenCV 4.6', OPENCV))):
         scene.disc(left + 6 + 140 * at, 88, 6, colour)
         scene.text(left + 20 + 140 * at, 93, words, 14, colour, bold=True)
-    under = 'OpenCV converts image files alone here, with no check and no header; there is no time of its blur.'
+    under = 'OpenCV: the conversions of image files alone, with no check and no header; there is no time of its blur.'
     scene.text(MARGIN, floor + 56, under, 14, GREY)
     return scene

@@ -66,7 +66,8 @@ def disc(canvas, x, y, radius, colour):
 
 
 def text(canvas, x, y, words, size, colour, anchor, bold):
-    x -= strokes.width(words, size) * {'start': 0, 'middle': 0.5, 'end': 1}[anchor]
+    # to hundredths, since versions of Python sum floats differently in the last bit
+    x = round(x - strokes.width(words, size) * {'start': 0, 'middle': 0.5, 'end': 1}[anchor], 2)
     for lines in filter(None, strokes.strokes(x, y, words, size)):
         canvas.near(lines, size * (0.07 if bold else 0.05), colour)
 
