@@ -83,18 +83,27 @@ def beside_rust():
     return [(words, *map(float, cells[name]), RUST) for name, words in SHOWN]
 
 
+EACH = 1e6 / 4096 ** 2  # nanoseconds a pixel of a millisecond a picture
+
+
+def blurs_beside_opencv():
+    """The same of blurs at 4096 square, beside OpenCV, of milliseconds a picture."""
+    head, *rows = table('PERFORMANCE.md', '## Blur, beside OpenCV')
+    ours, other = head.index('library'), head.index('OpenCV')
+    return [('blur, %s, n = 0' % row[0], EACH * float(row[ours]), EACH * float(row[other]), OPENCV) for row in rows]
+
+
 def beside_opencv():
-    """The same of image files at 4096 square, beside OpenCV, of milliseconds a picture."""
+    """The same of image files."""
     head, *rows = table('PERFORMANCE.md', '## Image files, beside OpenCV')
     before, now, other = (head.index(name) for name in ('before', 'now', 'OpenCV'))
-    each = 1e6 / 4096 ** 2
-    return [('image file ' + row[0], each * float(row[before if row[now] == 'as before' else now]), each * float(row[other]),
+    return [('image file ' + row[0], EACH * float(row[before if row[now] == 'as before' else now]), EACH * float(row[other]),
              OPENCV) for row in rows]
 
 
 def speed():
     """Nanoseconds a pixel beside the Rust and OpenCV."""
-    lines = beside_rust() + beside_opencv()
+    lines = beside_rust() + blurs_beside_opencv() + beside_opencv()
     scene = headed(960, 140 + 30 * len(lines) + 84, 'Nanoseconds a pixel, 4096 by 4096',
                    'Each mark is ten times the one before. Arm (Neoverse-N1), blurs under Duplicate (docs/PERFORMANCE.md).')
     left, top, decade, floor = 290, 118, 150, 118 + 30 * len(lines)
@@ -112,6 +121,6 @@ def speed():
     for at, (words, colour) in enumerate((('the library', LIBRARY), ('the Rust', RUST), ('OpenCV 4.6', OPENCV))):
         scene.disc(left + 6 + 140 * at, 88, 6, colour)
         scene.text(left + 20 + 140 * at, 93, words, 14, colour, bold=True)
-    under = 'OpenCV: the conversions of image files alone, with no check and no header; there is no time of its blur.'
+    under = 'OpenCV: its separable filter in binary32, and its conversions of image files, with no check and no header.'
     scene.text(MARGIN, floor + 56, under, 14, GREY)
     return scene
