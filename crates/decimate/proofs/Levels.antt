@@ -21,11 +21,13 @@ use Rattle.passes.proofs.Levels.{level-passed}
 use Rattle.passes.proofs.Local.{Local, halve-local, double-local}
 use Rattle.passes.proofs.OneWide.{one-wide}
 use Rattle.passes.proofs.Planes.{rows-bytes, cols-bytes}
-use Rattle.decimate.specs.declared.Resize.{Resize}
-use Rattle.decimate.specs.declared.Resize.the-variants.{Halve, Double}
+use Rattle.resize.specs.declared.Resize.{Resize}
+use Rattle.resize.specs.declared.Resize.the-variants.{Halve, Double}
 use Rattle.decimate.specs.declared.Rows.{Rows}
-use Rattle.decimate.specs.Resize.{passOf, rowsOf}
-use Rattle.decimate.specs.Room.{ResizeLines, Levels, LevelBuffers}
+use Rattle.resize.specs.Resize.{passOf}
+use Rattle.decimate.specs.Rows.{rowsOf}
+use Rattle.resize.specs.Room.{ResizeLines}
+use Rattle.decimate.specs.Room.{Levels, LevelBuffers}
 
 -- either pass looks only at its line
 local : (kind : Resize) (mode : EdgeMode) → Local (passOf kind mode)

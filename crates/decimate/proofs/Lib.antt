@@ -1,4 +1,2 @@
--- Laws of halving and doubling, for this crate's proofs.
-pub mod Sizes
-pub mod Outputs
+-- Laws of halving and doubling levels, for this crate's proofs.
 pub mod Levels

@@ -1,3 +1,3 @@
--- The definitions that contracts cite of halving and doubling lines and levels.
-pub mod Resize
+-- The definitions that contracts cite of halving and doubling levels.
+pub mod Rows
 pub mod Room

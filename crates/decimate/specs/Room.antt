@@ -1,22 +1,12 @@
--- What lines and levels need: lengths that are exact or suffice, and sides that the arithmetic has room for.
+-- What levels need: lengths that are exact or suffice, and sides that the arithmetic has room for.
 use mathlib.Core.Path.{_≡_}
 use mathlib.Core.List.{List}
-use Prim.Native.Nat.{ℕ, _*_, _≤_, _<_}
+use Prim.Native.Nat.{ℕ, _*_, _≤_}
 use lib.ListN.{length}
-use Rattle.picture.specs.Sizes.{sideRoom, levelBytes, Sized}
+use Rattle.picture.specs.Sizes.{levelBytes, Sized}
 use Rattle.picture.specs.declared.LevelSize.{LevelSize}
-use Rattle.decimate.specs.declared.Resize.{Resize}
-use Rattle.decimate.specs.Resize.{Makes}
-
--- lines of len elements are all of src, and as many of out elements all of dst
-pub record ResizeLines (kind : Resize) (src dst : List ℕ) (lines len out stride : ℕ) : Type 0 where
-  pub some : 0 < lines
-  pub stride-low : 0 < stride
-  pub len-low : 0 < len
-  pub len-high : len ≤ sideRoom
-  pub makes : Makes kind len out
-  pub src-length : length src ≡ lines * (len * stride)
-  pub dst-length : length dst ≡ lines * (out * stride)
+use Rattle.resize.specs.declared.Resize.{Resize}
+use Rattle.resize.specs.Resize.{Makes}
 
 -- a level of size s becomes one of size t, and both buffers have room for either and for what is between the two passes
 pub record Levels (kind : Resize) (picture scratch : List ℕ) (s t : LevelSize) : Type 0 where

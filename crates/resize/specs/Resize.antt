@@ -1,14 +1,11 @@
--- Halving and doubling by cases: the pass, how many elements it makes, and which of them have all samples inside; and rows as lines.
+-- Halving and doubling by cases: the pass, how many elements it makes, and which of them have all samples inside.
 use mathlib.Core.Path.{_≡_}
-use mathlib.Core.Bool.{cond}
-use Prim.Native.Nat.{ℕ, _+_, _-_, _*_, _/_}
-use lib.Dec.{eqb}
+use Prim.Native.Nat.{ℕ, _-_, _*_, _/_}
 use Rattle.picture.specs.Sizes.{half}
 use Rattle.picture.specs.declared.EdgeMode.{EdgeMode}
 use Rattle.passes.specs.Passes.{Pass, halve, double}
-use Rattle.decimate.specs.declared.Resize.{Resize}
-use Rattle.decimate.specs.declared.Resize.the-variants.{Halve, Double}
-use Rattle.decimate.specs.declared.Rows.{Rows}
+use Rattle.resize.specs.declared.Resize.{Resize}
+use Rattle.resize.specs.declared.Resize.the-variants.{Halve, Double}
 
 -- the pass of a kind
 abbrev pub passOf : Resize → EdgeMode → Pass
@@ -29,7 +26,3 @@ innerFrom Double = 2
 abbrev pub innerTo : Resize → ℕ → ℕ
 innerTo Halve len = (len - 1) / 2
 innerTo Double len = 2 * len - 2
-
--- h rows of w pixels, made v wide, as lines of w elements: a line to a row; all rows are one element where each is one pixel and stays so
-abbrev pub rowsOf : ℕ → ℕ → ℕ → Rows
-rowsOf w h v = cond (eqb (w + v) 2) (record { lines = 1; stride = h * 4 }) (record { lines = h; stride = 4 })

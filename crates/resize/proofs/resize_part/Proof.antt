@@ -1,10 +1,10 @@
 -- The outputs so far are a part of the line; each turn joins the next to it.
 use Prim.Native.Nat.{_-_}
 use native.Mathlib.Omega.{arith}
-use Rattle.decimate.specs.Resize.{passOf}
-use Rattle.decimate.proofs.Outputs.{SoFar, none-made, next-ends, next-room, one-more, all-made}
-use Rattle.decimate.proofs.resize_part.Statement.{statement}
-use Rattle.decimate.proofs.resize_part.Tie as tie
+use Rattle.resize.specs.Resize.{passOf}
+use Rattle.resize.proofs.Outputs.{SoFar, none-made, next-ends, next-room, one-more, all-made}
+use Rattle.resize.proofs.resize_part.Statement.{statement}
+use Rattle.resize.proofs.resize_part.Tie as tie
 
 abbrev Inv-loop : tie.InvT-loop
 Inv-loop src start stride len dst₀ o from to mode kind y₀ dst y = SoFar (passOf kind mode) src dst₀ dst start stride len o from to y

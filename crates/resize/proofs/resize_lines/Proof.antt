@@ -7,9 +7,9 @@ use denote.Ref.{now}
 use lib.ListN.{length}
 use Rattle.picture.proofs.Spans.{within, span-ends}
 use Rattle.passes.proofs.Written.{Lined, lined-none, lined-more, lined-all}
-use Rattle.decimate.specs.Resize.{passOf}
-use Rattle.decimate.proofs.resize_lines.Statement.{statement}
-use Rattle.decimate.proofs.resize_lines.Tie as tie
+use Rattle.resize.specs.Resize.{passOf}
+use Rattle.resize.proofs.resize_lines.Statement.{statement}
+use Rattle.resize.proofs.resize_lines.Tie as tie
 
 abbrev Inv-loop : tie.InvT-loop
 Inv-loop src dst₀ lines len out stride mode kind read made y₀ dst y =

@@ -1,7 +1,7 @@
 -- Each arm is the inside of its kind.
 use borrow.Author.Needs.{needs}
-use Rattle.decimate.proofs.resize_inner.Statement.{statement}
-use Rattle.decimate.proofs.resize_inner.Tie as tie
+use Rattle.resize.proofs.resize_inner.Statement.{statement}
+use Rattle.resize.proofs.resize_inner.Tie as tie
 
 halve-inner-requires : tie.Need-halve-inner-requires
 halve-inner-requires c κs = rw (c .before .enum-told .given .1) at (c .before .before .before .before .before .pre)

@@ -2,9 +2,9 @@
 use Prim.Native.Nat.{_*_, _≤_}
 use native.Mathlib.Omega.{arith}
 use Rattle.picture.specs.Sizes.{sideRoom}
-use Rattle.decimate.proofs.Sizes.{out-high}
-use Rattle.decimate.proofs.resize_line.Statement.{statement}
-use Rattle.decimate.proofs.resize_line.Tie as tie
+use Rattle.resize.proofs.Sizes.{out-high}
+use Rattle.resize.proofs.resize_line.Statement.{statement}
+use Rattle.resize.proofs.resize_line.Tie as tie
 
 -- the line has room for all its outputs
 all : (st : tie.Start) → st .args .out ≤ 2 * sideRoom

@@ -2,8 +2,8 @@
 use native.Mathlib.Omega.{arith}
 use borrow.Author.Needs.{needs}
 use Rattle.picture.proofs.Sizes.{room-is}
-use Rattle.decimate.proofs.inner_to.Statement.{statement}
-use Rattle.decimate.proofs.inner_to.Tie as tie
+use Rattle.resize.proofs.inner_to.Statement.{statement}
+use Rattle.resize.proofs.inner_to.Tie as tie
 
 mul-result : tie.Need-mul-result
 mul-result c = omega (arith, room-is)

@@ -1,7 +1,7 @@
 -- Each arm is the pass of its kind.
 use borrow.Author.Needs.{needs}
-use Rattle.decimate.proofs.resize_element.Statement.{statement}
-use Rattle.decimate.proofs.resize_element.Tie as tie
+use Rattle.resize.proofs.resize_element.Statement.{statement}
+use Rattle.resize.proofs.resize_element.Tie as tie
 
 halve-element-requires : tie.Need-halve-element-requires
 halve-element-requires c κs = c .before .before .before .before .before .pre

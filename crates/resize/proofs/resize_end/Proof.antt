@@ -1,7 +1,7 @@
 -- Each arm is the pass of its kind.
 use borrow.Author.Needs.{needs}
-use Rattle.decimate.proofs.resize_end.Statement.{statement}
-use Rattle.decimate.proofs.resize_end.Tie as tie
+use Rattle.resize.proofs.resize_end.Statement.{statement}
+use Rattle.resize.proofs.resize_end.Tie as tie
 
 halve-end-requires : tie.Need-halve-end-requires
 halve-end-requires c κs = c .before .before .before .before .before .pre

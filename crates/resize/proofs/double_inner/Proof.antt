@@ -7,8 +7,8 @@ use Rattle.picture.proofs.Sizes.{room-is}
 use Rattle.picture.proofs.Spans.{span-none, span-join}
 use Rattle.passes.specs.Passes.{double}
 use Rattle.blend.specs.Parts.{PassPartInside}
-use Rattle.decimate.proofs.double_inner.Statement.{statement}
-use Rattle.decimate.proofs.double_inner.Tie as tie
+use Rattle.resize.proofs.double_inner.Statement.{statement}
+use Rattle.resize.proofs.double_inner.Tie as tie
 
 abbrev Inv-loop : tie.InvT-loop
 Inv-loop src start len dst₀ o x₀ dst x =

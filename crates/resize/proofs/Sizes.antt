@@ -2,9 +2,9 @@
 use Prim.Native.Nat.{ℕ, _*_, _≤_, _<_}
 use native.Mathlib.Omega.{arith}
 use Rattle.picture.specs.Sizes.{sideRoom}
-use Rattle.decimate.specs.declared.Resize.{Resize}
-use Rattle.decimate.specs.declared.Resize.the-variants.{Halve, Double}
-use Rattle.decimate.specs.Resize.{Makes, innerFrom, innerTo}
+use Rattle.resize.specs.declared.Resize.{Resize}
+use Rattle.resize.specs.declared.Resize.the-variants.{Halve, Double}
+use Rattle.resize.specs.Resize.{Makes, innerFrom, innerTo}
 
 pub out-high : (kind : Resize) (len out : ℕ) → len ≤ sideRoom → Makes kind len out → out ≤ 2 * sideRoom
 out-high Halve len out l e = omega arith

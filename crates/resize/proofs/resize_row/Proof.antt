@@ -4,9 +4,9 @@ use Prim.Native.Nat.{_*_, _≤_}
 use native.Mathlib.Omega.{arith}
 use Rattle.picture.specs.Sizes.{sideRoom}
 use Rattle.picture.proofs.Spans.{span-join}
-use Rattle.decimate.proofs.Sizes.{out-high, inner-fits}
-use Rattle.decimate.proofs.resize_row.Statement.{statement}
-use Rattle.decimate.proofs.resize_row.Tie as tie
+use Rattle.resize.proofs.Sizes.{out-high, inner-fits}
+use Rattle.resize.proofs.resize_row.Statement.{statement}
+use Rattle.resize.proofs.resize_row.Tie as tie
 
 inner-to-requires : tie.Need-inner-to-requires
 inner-to-requires c κs =
