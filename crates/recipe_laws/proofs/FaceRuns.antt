@@ -10,8 +10,8 @@ use lib.Ieee.{Float}
 use Rattle.picture.specs.Answer.{Answer}
 use Rattle.recipe_checks.specs.declared.Step.{Step}
 use Rattle.recipes.specs.Chain.{ChainLeft, chainOutcome}
-use Rattle.face_recipes.proofs.Promised.{seen, Post}
 use Rattle.face_recipes.proofs.corbelrush_recipes as face
+use Rattle.recipe_laws.specs.Promised.{seen, Post}
 
 -- what a call is given: numbers, and what is behind each pointer that it reads
 abbrev RecipesGiven : Type 0

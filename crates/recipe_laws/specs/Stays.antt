@@ -16,7 +16,7 @@ use Rattle.recipe_checks.specs.declared.Chained.{Chained}
 use Rattle.recipes.specs.Chain.{firstBad, chained}
 use Rattle.recipes.proofs.Promised.{Post}
 use Rattle.recipes.proofs.recipes as entry
-use Rattle.face_recipes.proofs.Promised as face-promise
+use Rattle.recipe_laws.specs.Promised as face-promise
 use Rattle.face_recipes.proofs.corbelrush_recipes as face
 
 -- of a call that was lent the picture `before`, of w by h pixels, and left it as `after`: where r, g and b of each pixel were at most its alpha, they are

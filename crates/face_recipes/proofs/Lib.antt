@@ -1,2 +1,0 @@
--- What the contract of the function for C promises.
-pub mod Promised
