@@ -190,7 +190,7 @@ fn convolve_rows(
     weights: &[f32],
     mode: EdgeMode,
 )
-    requires { ⌜ 0 < lines ⌝ ∗ ⌜ ConvolveLines (now src) (now dst) (now weights) lines w lanes ⌝ }
+    requires { ⌜ ConvolveLines (now src) (now dst) (now weights) lines w lanes ⌝ }
     ensures { λ _. ⌜ now (dst .exit) ≡ passed (convolve mode (now (weights .entry))) (now (src .entry)) lines w w lanes ⌝ }
 {
     if w == 1 {

@@ -15,7 +15,7 @@ use Rattle.picture.proofs.Planes.{quotient, remainder, pixel-fits, painted-same
 use Rattle.passes.specs.declared.Form.{Form}
 use Rattle.passes.specs.Passes.{Pass, rows, cols}
 use Rattle.passes.specs.Written.{passed}
-use Rattle.passes.specs.Forms.{ofPixels, channels, formBytes, readAs, writeAs, formPass}
+use Rattle.passes.specs.Forms.{ofPixels, channels, formBytes, readAs, writeAs, formPass, Formed}
 use Rattle.passes.proofs.Local.{Local}
 use Rattle.passes.proofs.Planes.{at, length-passed}
 use Rattle.passes.proofs.Written.{passed-at}
@@ -122,6 +122,9 @@ form-passed f g l s t z src =
     ∙ write-same f (t .w) (t .h) _ _ (λ c x y lc lx ly. l (s .h) _ _ (z .h-low) (λ j lj. read-write f (t .w) (s .h) wide c x j lc lx lj) y)
 
 -- a picture of pixels is one of the forms
+pub pixels-formed : Formed ofPixels
+pixels-formed = record { planes-low = omega arith; planes-high = omega arith; lanes-low = omega arith; lanes-high = omega arith }
+
 pub pixel-bytes : (w h : ℕ) → formBytes ofPixels w h ≡ bytesOf w h
 pixel-bytes w h = omega (arith, mul-assoc h w 4, mul-comm h w)
 

@@ -6,3 +6,4 @@ pub mod OneWide
 pub mod Relates
 pub mod Forms
 pub mod Levels
+pub mod Lines

@@ -5,3 +5,4 @@ pub mod Blur
 pub mod Levels
 pub mod Forms
 pub mod Written
+pub mod Lines

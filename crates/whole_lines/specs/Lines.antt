@@ -2,8 +2,7 @@
 use mathlib.Core.Path.{_≡_}
 use mathlib.Core.List.{List}
 use Prim.Native.Nat.{ℕ, _+_, _*_, _/_, _≤_, _<_}
-use lib.ListN.{length}
-use Rattle.picture.specs.Sizes.{sideRoom}
+use Rattle.passes.specs.Lines.{Lines}
 use Rattle.grid_sums.specs.Room.{Numerators, TapRun}
 use Rattle.whole_lines.specs.declared.LineRun.{LineRun}
 
@@ -20,12 +19,7 @@ pub record RunAt (len stride taps p : ℕ) (r : LineRun) : Type 0 where
   pub ends : p + r .n ≤ len * stride
   pub tap : (j : ℕ) → j < taps → TapRun (r .inner) (r .x + j) (taps / 2) len stride (r .from) (r .n)
 
--- lines one after the other, and as many bytes for what is made of them
+-- numerators, and lines that stay as long
 pub record WholeLines (src dst ms : List ℕ) (lines len stride : ℕ) : Type 0 where
   pub kernel : Numerators ms
-  pub some : 0 < lines
-  pub len-low : 0 < len
-  pub len-high : len ≤ sideRoom
-  pub stride-low : 0 < stride
-  pub src-size : length src ≡ lines * (len * stride)
-  pub dst-size : length dst ≡ lines * (len * stride)
+  pub lined : Lines src dst lines len len stride

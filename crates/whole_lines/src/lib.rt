@@ -130,5 +130,5 @@ pub fn whole_level(
     let w = s.width();
     let h = s.height();
     whole_lines(picture, scratch, h, w, 4, numerators, mode);
-    whole_lines(scratch, picture, 1, h, 4 * w, numerators, mode);
+    whole_lines(scratch, picture, 1, h, w * 4, numerators, mode);
 }

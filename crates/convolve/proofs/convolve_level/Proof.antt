@@ -1,11 +1,9 @@
 -- A picture of pixels is one of the forms.
 use mathlib.Core.Path.{_∙_, sym}
-use native.Mathlib.Omega.{arith}
 use borrow.Author.Needs.{needs}
 use denote.Ref.{now}
 use Rattle.passes.specs.Passes.{convolve}
-use Rattle.passes.specs.Forms.{ofPixels, Formed}
-use Rattle.passes.proofs.Forms.{pixel-bytes}
+use Rattle.passes.proofs.Forms.{pixel-bytes, pixels-formed}
 use Rattle.passes.proofs.Levels.{level-formed}
 use Rattle.passes.proofs.Local.{convolve-local}
 use Rattle.convolve.proofs.convolve_level.Statement.{statement}
@@ -15,8 +13,7 @@ convolve-form-requires : tie.Need-convolve-form-requires
 convolve-form-requires c κs =
     let s = c .before .before .before .before .before in
     let z = s .args .s in
-    let formed : Formed ofPixels = record { planes-low = omega arith; planes-high = omega arith; lanes-low = omega arith; lanes-high = omega arith } in
-    (formed, (s .pre .0, (s .pre .1 .0 ∙ sym (pixel-bytes (z .w) (z .h)), (s .pre .1 .1 .0 ∙ sym (pixel-bytes (z .w) (z .h)), s .pre .1 .1 .1))))
+    (pixels-formed, (s .pre .0, (s .pre .1 .0 ∙ sym (pixel-bytes (z .w) (z .h)), (s .pre .1 .1 .0 ∙ sym (pixel-bytes (z .w) (z .h)), s .pre .1 .1 .1))))
 
 returns : tie.Need-returns
 returns c =

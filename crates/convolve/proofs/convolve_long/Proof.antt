@@ -8,7 +8,7 @@ each-line-requires : tie.Need-each-line-requires
 each-line-requires c κs =
     let t = c .before .before .before in
     let s = t .before .before .before .before in
-    (s .pre, long-room (s .pre .stride-low) (t .least .ensures))
+    (s .pre, long-room (s .pre .lined .stride-low) (t .least .ensures))
 
 pub convolve-long-spec : {M : Type 1} → statement M
 convolve-long-spec =

@@ -19,21 +19,24 @@ narrow w lines lanes n e l = l ∙ ap (λ (k : ℕ). lines * k) (ap (λ (k : ℕ
 mul-convolve-lines : tie.Need-mul-convolve-lines
 mul-convolve-lines c =
     let s = c .before .before .before .before .before in
-    omega (arith, narrow (s .args .w) (s .args .lines) (s .args .lanes) _ (c .before .if1 .taken) (s .pre .1 .src-size), s .good .0 .0)
+    omega (arith, narrow (s .args .w) (s .args .lines) (s .args .lanes) _ (c .before .if1 .taken) (s .pre .lined .src-size), s .good .0 .0)
 
 convolve-lines-requires : tie.Need-convolve-lines-requires
 convolve-lines-requires c κs =
     let s = c .before .before .before .before .before in
-    let p = s .pre .1 in
+    let p = s .pre .lined in
     let size = narrow (s .args .w) (s .args .lines) (s .args .lanes) in
     let e = c .before .if1 .taken in
     record {
-      kernel = p .kernel;
-      len-low = omega arith;
-      len-high = omega (arith, room-is);
-      stride-low = mul-pos (s .pre .0) (p .stride-low);
-      src-size = omega (arith, size _ e (p .src-size));
-      dst-size = omega (arith, size _ e (p .dst-size));
+      kernel = s .pre .kernel;
+      lined = record {
+        some = omega arith;
+        len-low = omega arith;
+        len-high = omega (arith, room-is);
+        stride-low = mul-pos (p .some) (p .stride-low);
+        src-size = omega (arith, size _ e (p .src-size));
+        dst-size = omega (arith, size _ e (p .dst-size));
+      };
     }
 
 returns : tie.Need-returns

@@ -33,7 +33,7 @@ ends : (c : tie.In-loop Inv-loop μ-loop) →
 ends c =
     let l = c .before in
     let s = start l in
-    line-ends (l .loop .inv .3) (s .args .lines) (s .pre .0 .dst-size) (c .loop-test .taken)
+    line-ends (l .loop .inv .3) (s .args .lines) (s .pre .0 .lined .dst-size) (c .loop-test .taken)
 
 fits : (l : tie.At-loop Inv-loop μ-loop) → length (l .loop .dst) < 2 ^ 64
 fits l = omega (arith, l .loop .inv .3 .made .size, start l .good .1 .0 .0)
@@ -52,9 +52,9 @@ convolve-whole-requires c κs =
     let q = s .pre .1 in
     let i = l .loop .inv in
     let e = ends t in (
-      record { kernel = p .kernel; len-high = p .len-high; stride-low = p .stride-low; end = omega (arith, i .3 .made .size, p .src-size, p .dst-size) },
+      record { kernel = p .kernel; len-high = p .lined .len-high; stride-low = p .lined .stride-low; end = omega (arith, i .3 .made .size, p .lined .src-size, p .lined .dst-size) },
       (
-        (p .len-low, omega arith),
+        (p .lined .len-low, omega arith),
         (simp (length-take, length-drop) (omega arith), short-room (p .kernel) (s .args .len) (s .args .stride) (i .1) (i .2) (q .0) (q .1)),
       ),
     )
@@ -70,12 +70,12 @@ loop-again c =
       omega arith,
       k .0 ∙ i .1,
       k .1 .0 ∙ i .2,
-      line-more (i .3) (s .args .lines) (s .pre .0 .dst-size) (t .loop-test .taken) (w .convolve-whole .last .1 .1 .1 .1 .0) (k .1 .1 .1 .1 .0)
-          (λ j h. w .convolve-whole .ensures .makes j (omega arith, omega (arith, div-lt-iff-lt-mul (s .pre .0 .stride-low) .1 h))),
+      line-more (i .3) (s .args .lines) (s .pre .0 .lined .dst-size) (t .loop-test .taken) (w .convolve-whole .last .1 .1 .1 .1 .0) (k .1 .1 .1 .1 .0)
+          (λ j h. w .convolve-whole .ensures .makes j (omega arith, omega (arith, div-lt-iff-lt-mul (s .pre .0 .lined .stride-low) .1 h))),
     )
 
 returns : tie.Need-returns Inv-loop μ-loop
-returns c = let l = c .before in let s = start l in lined-all (l .loop .inv .3) (s .args .lines) (s .pre .0 .dst-size) (omega arith)
+returns c = let l = c .before in let s = start l in lined-all (l .loop .inv .3) (s .args .lines) (s .pre .0 .lined .dst-size) (omega arith)
 
 pub convolve-short-spec : {M : Type 1} → statement M
 convolve-short-spec =

@@ -30,7 +30,7 @@ ends : (c : tie.In-loop Inv-loop μ-loop) →
 ends c =
     let l = c .before in
     let s = start l in
-    line-ends (l .loop .inv .3) (s .args .lines) (s .pre .0 .dst-size) (c .loop-test .taken)
+    line-ends (l .loop .inv .3) (s .args .lines) (s .pre .0 .lined .dst-size) (c .loop-test .taken)
 
 fits : (l : tie.At-loop Inv-loop μ-loop) → length (l .loop .dst) < 2 ^ 64
 fits l = omega (arith, l .loop .inv .3 .made .size, start l .good .1 .1 .1 .0 .0)
@@ -48,7 +48,7 @@ convolve-line-requires c κs =
     let b = start l .pre .1 in
     let i = l .loop .inv in
     let e = ends t in (
-      record { kernel = p .kernel; len-high = p .len-high; stride-low = p .stride-low; end = omega (arith, i .3 .made .size, p .src-size, p .dst-size) },
+      record { kernel = p .kernel; len-high = p .lined .len-high; stride-low = p .lined .stride-low; end = omega (arith, i .3 .made .size, p .lined .src-size, p .lined .dst-size) },
       (simp (length-take, length-drop) (omega arith), room-still b (i .1) (i .2) (b .some) (omega arith)),
     )
 
@@ -60,10 +60,10 @@ loop-again c =
     let s = start l in
     let i = l .loop .inv in
     let k = w .convolve-line .kept in
-    (omega arith, k .0 ∙ i .1, k .1 .0 ∙ i .2, line-more (i .3) (s .args .lines) (s .pre .0 .dst-size) (t .loop-test .taken) (w .convolve-line .last .1 .1 .1 .1 .0) (k .1 .1 .1 .1 .0) (w .convolve-line .ensures))
+    (omega arith, k .0 ∙ i .1, k .1 .0 ∙ i .2, line-more (i .3) (s .args .lines) (s .pre .0 .lined .dst-size) (t .loop-test .taken) (w .convolve-line .last .1 .1 .1 .1 .0) (k .1 .1 .1 .1 .0) (w .convolve-line .ensures))
 
 returns : tie.Need-returns Inv-loop μ-loop
-returns c = let l = c .before in let s = start l in lined-all (l .loop .inv .3) (s .args .lines) (s .pre .0 .dst-size) (omega arith)
+returns c = let l = c .before in let s = start l in lined-all (l .loop .inv .3) (s .args .lines) (s .pre .0 .lined .dst-size) (omega arith)
 
 pub each-line-spec : {M : Type 1} → statement M
 each-line-spec =

@@ -1,60 +1,56 @@
 -- Rows to scratch and columns back are the pass of a level.
-use mathlib.Core.Path.{_∙_}
+use mathlib.Core.Path.{_≡_, _∙_, sym}
+use Prim.Native.Nat.{ℕ, _*_}
+use native.Mathlib.Nat.{one-mul}
 use native.Mathlib.Omega.{arith}
 use borrow.Author.Needs.{needs}
 use denote.Ref.{now}
-use Rattle.picture.proofs.Sizes.{room-is}
-use Rattle.passes.proofs.Levels.{level-passed}
-use Rattle.passes.proofs.Planes.{rows-bytes, cols-bytes}
+use Rattle.picture.specs.Sizes.{levelBytes}
+use Rattle.picture.specs.declared.LevelSize.{LevelSize}
+use Rattle.passes.specs.Forms.{ofPixels, formBytes}
+use Rattle.passes.specs.Lines.{Lines}
+use Rattle.passes.proofs.Forms.{pixel-bytes, pixels-formed}
+use Rattle.passes.proofs.Levels.{level-formed}
+use Rattle.passes.proofs.Lines.{lines-fit, rows-are, cols-are, level-is}
 use Rattle.grid_sums.specs.Sums.{wholeConvolve}
 use Rattle.grid_sums.proofs.Local.{whole-local}
 use Rattle.whole_lines.proofs.whole_level.Statement.{statement}
 use Rattle.whole_lines.proofs.whole_level.Tie as tie
 
+-- a level of pixels has the bytes of that form
+formed : (s : LevelSize) (n : ℕ) → n ≡ levelBytes s → n ≡ formBytes ofPixels (s .w) (s .h)
+formed s n e = e ∙ sym (pixel-bytes (s .w) (s .h))
+
 whole-lines-requires : tie.Need-whole-lines-requires
 whole-lines-requires c κs =
     let t = c .before .before in
     let s = t .before .before .before .before .before in
-    let z = s .pre .0 in
-    let ew = t .before .width .ensures in
-    let eh = t .height .ensures in
-    let rows = rows-bytes (s .args .s .w) (s .args .s .h) in
-    record {
-      kernel = s .pre .1 .1 .1;
-      some = omega (arith, eh, z .h-low);
-      len-low = omega (arith, ew, z .w-low);
-      len-high = omega (arith, ew, z .w-high);
-      stride-low = omega arith;
-      src-size = rw (ew, eh) (s .pre .1 .0 ∙ rows);
-      dst-size = rw (ew, eh) (s .pre .1 .1 .0 ∙ rows);
-    }
-
-mul-whole-lines : tie.Need-mul-whole-lines
-mul-whole-lines c =
-    let t = c .before .before .before .before .before .before .before .before in
-    omega (arith, t .width .ensures, t .before .before .before .before .pre .0 .w-high, room-is)
+    let z = s .args .s in
+    let w = t .before .width .result in
+    let h = t .height .result in
+    let rows : Lines (now (s .args .picture)) (now (s .args .scratch)) (1 * h) w w 4 = rows-are ofPixels pixels-formed z (s .pre .0) (t .before .width .ensures) (t .height .ensures) (formed z _ (s .pre .1 .0)) (formed z _ (s .pre .1 .1 .0)) in
+    record { kernel = s .pre .1 .1 .1; lined = rw (one-mul h) at rows }
 
 -- where the function starts, from the rows' call
 abbrev start : tie.After-whole-lines → tie.Start
 start r = r .before .before .before .before .before .before .before .before
+
+mul-whole-lines : tie.Need-mul-whole-lines
+mul-whole-lines c =
+    let r = c .before .before .before .before in
+    let t = r .before .before .before in
+    let s = start r in
+    omega (arith, lines-fit ofPixels pixels-formed (s .args .s) (s .pre .0) (t .before .width .ensures) (t .height .ensures))
 
 whole-lines-requires-2 : tie.Need-whole-lines-requires-2
 whole-lines-requires-2 c κs =
     let r = c .before .before .before .before in
     let t = r .before .before .before in
     let s = start r in
-    let z = s .pre .0 in
-    let ew = t .before .width .ensures in
-    let eh = t .height .ensures in
-    let cols = cols-bytes (s .args .s .w) (s .args .s .h) in
+    let z = s .args .s in
     record {
       kernel = s .pre .1 .1 .1;
-      some = omega arith;
-      len-low = omega (arith, eh, z .h-low);
-      len-high = omega (arith, eh, z .h-high);
-      stride-low = omega (arith, ew, z .w-low);
-      src-size = rw (ew, eh) (r .whole-lines .kept .1 .0 ∙ s .pre .1 .1 .0 ∙ cols);
-      dst-size = rw (ew, eh) (s .pre .1 .0 ∙ cols);
+      lined = cols-are ofPixels pixels-formed z (s .pre .0) (t .before .width .ensures) (t .height .ensures) (formed z _ (r .whole-lines .kept .1 .0 ∙ s .pre .1 .1 .0)) (formed z _ (s .pre .1 .0));
     }
 
 returns : tie.Need-returns
@@ -62,10 +58,12 @@ returns c =
     let q = c .before .before in
     let r = q .before .before .before .before .before in
     let t = r .before .before .before in
-    let a = start r .args in
-    q .whole-lines2 .ensures
-    ∙ rw (r .whole-lines .ensures, t .before .width .ensures, t .height .ensures)
-    (level-passed (wholeConvolve (a .mode) (now (a .numerators))) (whole-local (a .mode) (now (a .numerators))) (a .s) (a .s) (start r .pre .0) (now (a .picture)))
+    let s = start r in
+    let a = s .args in
+    let C = wholeConvolve (a .mode) (now (a .numerators)) in
+    let local = whole-local (a .mode) (now (a .numerators)) in
+    level-is ofPixels pixels-formed (a .s) (s .pre .0) (t .before .width .ensures) (t .height .ensures) C local (now (a .picture)) (rw (one-mul (t .height .result)) (r .whole-lines .ensures)) (q .whole-lines2 .ensures)
+    ∙ level-formed C local (a .s) (a .s) (s .pre .0) (now (a .picture))
 
 pub whole-level-spec : {M : Type 1} → statement M
 whole-level-spec =

@@ -24,7 +24,7 @@ begin l = l .before .before .before .before
 mul-size : tie.Need-mul-size Inv-loop μ-loop
 mul-size c =
     let s = c .before .before .before in
-    omega (arith, within 0 (s .args .len * s .args .stride) 0 (s .args .lines) (s .pre .some), s .pre .src-size, s .good .0 .0)
+    omega (arith, within 0 (s .args .len * s .args .stride) 0 (s .args .lines) (s .pre .lined .some), s .pre .lined .src-size, s .good .0 .0)
 
 -- the line of a turn ends within src and within dst
 ends : (c : tie.In-loop Inv-loop μ-loop) →
@@ -35,8 +35,8 @@ ends : (c : tie.In-loop Inv-loop μ-loop) →
 ends c =
     let l = c .before in
     let s = begin l in
-    let e = line-ends (l .loop .inv .2) (s .args .lines) (s .pre .dst-size) (c .loop-test .taken) in
-    (e, omega (arith, l .loop .inv .2 .made .size, s .pre .src-size, s .pre .dst-size), s .good .0 .0)
+    let e = line-ends (l .loop .inv .2) (s .args .lines) (s .pre .lined .dst-size) (c .loop-test .taken) in
+    (e, omega (arith, l .loop .inv .2 .made .size, s .pre .lined .src-size, s .pre .lined .dst-size), s .good .0 .0)
 
 whole-line-requires : tie.Need-whole-line-requires Inv-loop μ-loop
 whole-line-requires c κs =
@@ -45,7 +45,7 @@ whole-line-requires c κs =
     let p = begin l .pre in
     let e = ends t in (
       omega (arith, l .loop .inv .1),
-      (p .stride-low, (record { len-low = p .len-low; len-high = p .len-high; src-ends = e .1; dst-ends = e .0 }, p .kernel)),
+      (p .lined .stride-low, (record { len-low = p .lined .len-low; len-high = p .lined .len-high; src-ends = e .1; dst-ends = e .0 }, p .kernel)),
     )
 
 loop-again : tie.Need-loop-again Inv-loop μ-loop
@@ -57,7 +57,7 @@ loop-again c =
     (omega (arith, t .loop-test .taken), k .0 ∙ l .loop .inv .1, lined-more (l .loop .inv .2) (w .whole-line .ensures))
 
 returns : tie.Need-returns Inv-loop μ-loop
-returns c = let l = c .before in let s = begin l in lined-all (l .loop .inv .2) (s .args .lines) (s .pre .dst-size) (omega arith)
+returns c = let l = c .before in let s = begin l in lined-all (l .loop .inv .2) (s .args .lines) (s .pre .lined .dst-size) (omega arith)
 
 pub whole-lines-spec : {M : Type 1} → statement M
 whole-lines-spec =
