@@ -3,19 +3,20 @@
 use mathlib.Core.Path.{_≡_, _∙_, sym, ap, fun-ext}
 use mathlib.Core.List.{List}
 use mathlib.Core.Logic.{⊎-elim}
-use Prim.Native.Nat.{ℕ, _+_, _*_, _/_, _%_, _<_}
+use Prim.Native.Nat.{ℕ, _+_, _*_, _/_, _%_, _≤_, _<_}
 use native.Mathlib.Omega.{arith}
-use native.Mathlib.Nat.{add-mul, mul-assoc, mul-comm, mul-zero, zero-mul, mod-lt, div-lt-iff-lt-mul, div-add-mod', eq-zero-or-pos}
+use native.Mathlib.Nat.{add-mul, mul-assoc, mul-comm, mul-zero, zero-mul, mod-lt, div-lt-iff-lt-mul, div-add-mod', eq-zero-or-pos, mul-le-mul, mul-le-mul-left}
 use lib.ListN.{length, getD}
 use Rattle.picture.specs.Planes.{Line, Plane, bytesOf, chan, painted}
-use Rattle.picture.specs.Sizes.{Sized}
+use Rattle.picture.specs.Sizes.{Sides, Sized}
 use Rattle.picture.specs.declared.LevelSize.{LevelSize}
 use Rattle.picture.proofs.Build.{length-build, getD-build, build-ext}
 use Rattle.picture.proofs.Planes.{quotient, remainder, pixel-fits, painted-same, painted-ext}
+use Rattle.picture.proofs.Sizes.{room-is}
 use Rattle.passes.specs.declared.Form.{Form}
 use Rattle.passes.specs.Passes.{Pass, rows, cols}
 use Rattle.passes.specs.Written.{passed}
-use Rattle.passes.specs.Forms.{ofPixels, channels, formBytes, readAs, writeAs, formPass, Formed}
+use Rattle.passes.specs.Forms.{ofPixels, channels, rowBytes, planeBytes, formBytes, readAs, writeAs, formPass, Formed}
 use Rattle.passes.proofs.Local.{Local}
 use Rattle.passes.proofs.Planes.{at, length-passed}
 use Rattle.passes.proofs.Written.{passed-at}
@@ -69,6 +70,12 @@ module _ (f : Form) (w h : ℕ) where
 pub write-same : (f : Form) (w h : ℕ) (F G : ℕ → Plane) → ((c x y : ℕ) → c < channels f → x < w → y < h → F c x y ≡ G c x y) → writeAs f w h F ≡ writeAs f w h G
 write-same f w h F G e =
     write-ext f w h G (writeAs f w h F) (length-write f w h F) (λ c x y lc lx ly. read-write f w h F c x y lc lx ly ∙ e c x y lc lx ly)
+
+-- the half of a level has no more bytes, and what is between two passes no more than the larger level
+pub form-grows : (f : Form) {v u w h : ℕ} → v ≤ w → u ≤ h → formBytes f v u ≤ formBytes f w h
+form-grows f {v} {u} {w} {h} a b =
+    mul-le-mul-left (f .planes)
+    (mul-le-mul {n₁ = u} {m₁ = v * f .lanes} {n₂ = h} {m₂ = w * f .lanes} b (mul-le-mul {n₁ = v} {m₁ = f .lanes} {n₂ = w} {m₂ = f .lanes} a (omega arith)))
 
 module _ (g : Pass) (f : Form) (src : List ℕ) (w h v : ℕ) where
   abbrev lanes : ℕ
@@ -145,3 +152,10 @@ pub pixels-alike : (w h v u : ℕ) (Op : Plane → Plane) → ((p q : Plane) →
     (bytes : List ℕ) → writeAs ofPixels v u (λ c. Op (readAs ofPixels bytes w h c)) ≡ painted v u (λ c. Op (chan bytes w c))
 pixels-alike w h v u Op local bytes =
     pixel-write v u _ ∙ painted-same v u _ _ (λ c x y lc _ _. local _ _ (λ i j li lj. pixel-read bytes w h c i j lc) x y)
+
+-- the bytes of a row, of a plane and of all planes are numbers that the arithmetic has room for
+pub form-room : (f : Form) → Formed f → {w h : ℕ} → Sides w h → (rowBytes f w ≤ 262144) × (planeBytes f w h ≤ 17179869184) × (formBytes f w h ≤ 68719476736)
+form-room f z {w} {h} s =
+    let a : w * f .lanes ≤ 65536 * 4 = mul-le-mul {n₁ = w} {m₁ = f .lanes} {n₂ = 65536} {m₂ = 4} (omega (arith, s .w-high, room-is)) (z .lanes-high) in
+    let b : h * (w * f .lanes) ≤ 65536 * 262144 = mul-le-mul {n₁ = h} {m₁ = w * f .lanes} {n₂ = 65536} {m₂ = 262144} (omega (arith, s .h-high, room-is)) a in
+    (a, b, mul-le-mul {n₁ = f .planes} {m₁ = h * (w * f .lanes)} {n₂ = 4} {m₂ = 17179869184} (z .planes-high) b)
