@@ -1,26 +1,25 @@
--- A level as lines: h rows of pixels, and one line of rows; and the two passes over it, each into the front of a buffer.
+-- A level as lines: the rows of its planes, and each plane as one line of rows; and the two passes over it, each into the front of a buffer.
 use mathlib.Core.Path.{_≡_, refl, sym, ap, _∙_}
 use mathlib.Core.Bool.{Bool, true, false, cond}
 use mathlib.Core.List.{List}
 use Prim.Native.Nat.{ℕ, _+_, _*_, _≤_, _<_}
-use native.Mathlib.Nat.{mul-le-mul}
+use native.Mathlib.Nat.{mul-assoc, mul-pos, one-mul}
 use native.Mathlib.Omega.{arith}
 use borrow.Author.Tests.{eqb-true}
 use lib.Dec.{eqb}
 use lib.ListN.{length, take}
 use lib.Seq.{length-take-le, take-all}
-use Rattle.picture.specs.Planes.{bytesOf}
-use Rattle.picture.specs.Sizes.{half, halfLevel, levelBytes}
+use Rattle.picture.specs.Sizes.{half, halfLevel}
 use Rattle.picture.specs.declared.EdgeMode.{EdgeMode}
 use Rattle.picture.specs.declared.LevelSize.{LevelSize}
-use Rattle.picture.proofs.Sizes.{half-sized, half-fits}
+use Rattle.picture.proofs.Sizes.{half-sized}
 use Rattle.passes.specs.Passes.{Pass}
-use Rattle.passes.specs.Levels.{levelPass}
+use Rattle.passes.specs.Forms.{formBytes, formPass}
 use Rattle.passes.specs.Written.{passed}
-use Rattle.passes.proofs.Levels.{level-passed}
+use Rattle.passes.specs.declared.Form.{Form}
+use Rattle.passes.proofs.Forms.{form-passed, form-grows}
 use Rattle.passes.proofs.Local.{Local, halve-local, double-local}
 use Rattle.passes.proofs.OneWide.{one-wide}
-use Rattle.passes.proofs.Planes.{rows-bytes, cols-bytes}
 use Rattle.resize.specs.declared.Resize.{Resize}
 use Rattle.resize.specs.declared.Resize.the-variants.{Halve, Double}
 use Rattle.decimate.specs.declared.Rows.{Rows}
@@ -34,111 +33,134 @@ local : (kind : Resize) (mode : EdgeMode) → Local (passOf kind mode)
 local Halve mode = halve-local mode
 local Double mode = double-local mode
 
--- rows as lines: one to a row, or where each row is one pixel and stays so, one of one element
-module _ {w v : ℕ} (wl : 0 < w) (vl : 0 < v) (h : ℕ) where
-  rows-by : (P : Rows → Type 0) → (w ≡ 1 → v ≡ 1 → P (record { lines = 1; stride = h * 4 })) → P (record { lines = h; stride = 4 }) → P (rowsOf w h v)
+-- rows as lines: one to a row, or where each row is one element and stays so, one of one element
+module _ {w v : ℕ} (wl : 0 < w) (vl : 0 < v) (lines lanes : ℕ) where
+  rows-by : (P : Rows → Type 0) → (w ≡ 1 → v ≡ 1 → P (record { lines = 1; stride = lines * lanes })) → P (record { lines = lines; stride = lanes }) → P (rowsOf w lines lanes v)
   rows-by P one all = by (eqb (w + v) 2) refl
     where
-      by : (t : Bool) → eqb (w + v) 2 ≡ t → P (cond t (record { lines = 1; stride = h * 4 }) (record { lines = h; stride = 4 }))
+      by : (t : Bool) → eqb (w + v) 2 ≡ t → P (cond t (record { lines = 1; stride = lines * lanes }) (record { lines = lines; stride = lanes }))
       by true e = let s : w + v ≡ 2 = eqb-true (w + v) 2 e in one (omega arith) (omega arith)
       by false e = all
 
   -- they are all of either buffer, ..
-  pub rows-fit : {kind : Resize} {src dst : List ℕ} → ResizeLines kind src dst h w v 4 → ResizeLines kind src dst (rowsOf w h v .lines) w v (rowsOf w h v .stride)
+  pub rows-fit : {kind : Resize} {src dst : List ℕ} → ResizeLines kind src dst lines w v lanes → ResizeLines kind src dst (rowsOf w lines lanes v .lines) w v (rowsOf w lines lanes v .stride)
   rows-fit {kind} {src} {dst} r =
       rows-by (λ rows. ResizeLines kind src dst (rows .lines) w v (rows .stride))
       (λ ew ev.
       record {
         some = omega arith;
-        stride-low = omega (arith, r .some);
+        stride-low = mul-pos (r .some) (r .stride-low);
         len-low = wl;
         len-high = r .len-high;
         makes = r .makes;
-        src-length = r .src-length ∙ rw ew (omega arith);
-        dst-length = r .dst-length ∙ rw ev (omega arith);
+        src-length = r .src-length ∙ rw ew one-line;
+        dst-length = r .dst-length ∙ rw ev one-line;
       })
       r
+    where
+      one-line : lines * (1 * lanes) ≡ 1 * (1 * (lines * lanes))
+      one-line = rw (one-mul lanes) (omega arith)
 
   -- .. and what either way makes is the same
-  pub rows-same : (f : Pass) → Local f → (src : List ℕ) → passed f src (rowsOf w h v .lines) w v (rowsOf w h v .stride) ≡ passed f src h w v 4
+  pub rows-same : (f : Pass) → Local f → (src : List ℕ) → passed f src (rowsOf w lines lanes v .lines) w v (rowsOf w lines lanes v .stride) ≡ passed f src lines w v lanes
   rows-same f l src =
-      rows-by (λ rows. passed f src (rows .lines) w v (rows .stride) ≡ passed f src h w v 4)
-      (λ ew ev. rw (ew, ev) (sym (one-wide f l src h 4)))
+      rows-by (λ rows. passed f src (rows .lines) w v (rows .stride) ≡ passed f src lines w v lanes)
+      (λ ew ev. rw (ew, ev) (sym (one-wide f l src lines lanes)))
       refl
 
-module _ {kind : Resize} {picture scratch : List ℕ} {s t : LevelSize} (r : Levels kind picture scratch s t) where
-  pub rows-lines :
-      let rows = rowsOf (s .w) (s .h) (t .w) in
-      ResizeLines kind (take (levelBytes s) picture) (take (s .h * (t .w * 4)) scratch) (rows .lines) (s .w) (t .w) (rows .stride)
-  rows-lines =
-      rows-fit (r .s-sized .w-low) (r .t-sized .w-low) (s .h)
-      record {
-        some = r .s-sized .h-low;
-        stride-low = omega arith;
-        len-low = r .s-sized .w-low;
-        len-high = r .s-sized .w-high;
-        makes = r .wide;
-        src-length = length-take-le _ _ (r .s-fits) ∙ rows-bytes (s .w) (s .h);
-        dst-length = length-take-le _ _ (r .between-fits);
-      }
+-- a level of size s made one of size t; w, h, v, u, before and after are the numbers that the code works out
+module _ {f : Form} {kind : Resize} {picture scratch : List ℕ} {s t : LevelSize} (r : Levels f kind picture scratch s t)
+    {w h v u before after : ℕ} (ew : w ≡ s .w) (eh : h ≡ s .h) (ev : v ≡ t .w) (eu : u ≡ t .h) (eb : before ≡ formBytes f (s .w) (s .h)) (ea : after ≡ formBytes f (t .w) (t .h)) where
+  w-low : 0 < w
+  w-low = omega (arith, r .s-sized .w-low)
 
-  pub cols-lines : {src : List ℕ} → length src ≡ s .h * (t .w * 4) → ResizeLines kind src (take (levelBytes t) picture) 1 (s .h) (t .h) (4 * t .w)
+  v-low : 0 < v
+  v-low = omega (arith, r .t-sized .w-low)
+
+  pub between-fits : f .planes * h * (v * f .lanes) ≤ length scratch
+  between-fits = rw (mul-assoc (f .planes) h (v * f .lanes), eh, ev) (r .between-fits)
+
+  -- the rows of all planes
+  pub rows-lines : {q : Rows} → q ≡ rowsOf w (f .planes * h) (f .lanes) v →
+      ResizeLines kind (take before picture) (take (f .planes * h * (v * f .lanes)) scratch) (q .lines) w v (q .stride)
+  rows-lines eq =
+      rw eq
+      (rows-fit w-low v-low (f .planes * h) (f .lanes)
+      record {
+        some = mul-pos (r .formed .planes-low) (omega (arith, r .s-sized .h-low));
+        stride-low = r .formed .lanes-low;
+        len-low = w-low;
+        len-high = omega (arith, r .s-sized .w-high);
+        makes = rw (ew, ev) (r .wide);
+        src-length = length-take-le _ _ (omega (arith, r .s-fits)) ∙ eb ∙ rw (ew, eh) (sym (mul-assoc (f .planes) (s .h) (s .w * f .lanes)));
+        dst-length = length-take-le _ _ between-fits;
+      })
+
+  -- the planes, each a line of rows
+  pub cols-lines : {src : List ℕ} → length src ≡ f .planes * h * (v * f .lanes) → ResizeLines kind src (take after picture) (f .planes) h u (v * f .lanes)
   cols-lines n =
       record {
-        some = omega arith;
-        stride-low = omega (arith, r .t-sized .w-low);
-        len-low = r .s-sized .h-low;
-        len-high = r .s-sized .h-high;
-        makes = r .high;
-        src-length = n ∙ sym (rows-bytes (t .w) (s .h)) ∙ cols-bytes (t .w) (s .h);
-        dst-length = length-take-le _ _ (r .t-fits) ∙ cols-bytes (t .w) (t .h);
+        some = r .formed .planes-low;
+        stride-low = mul-pos v-low (r .formed .lanes-low);
+        len-low = omega (arith, r .s-sized .h-low);
+        len-high = omega (arith, r .s-sized .h-high);
+        makes = rw (eh, eu) (r .high);
+        src-length = n ∙ mul-assoc (f .planes) h (v * f .lanes);
+        dst-length = length-take-le _ _ (omega (arith, r .t-fits)) ∙ ea ∙ rw (ev, eu);
       }
 
   -- the columns of what the rows made
-  pub level-made : (mode : EdgeMode) {mid last : List ℕ} →
-      mid ≡ passed (passOf kind mode) (take (levelBytes s) picture) (rowsOf (s .w) (s .h) (t .w) .lines) (s .w) (t .w) (rowsOf (s .w) (s .h) (t .w) .stride) →
-      last ≡ passed (passOf kind mode) mid 1 (s .h) (t .h) (4 * t .w) →
-      last ≡ levelPass (passOf kind mode) s t (take (levelBytes s) picture)
-  level-made mode e f =
-      f
-      ∙ ap (λ (l : List ℕ). passed (passOf kind mode) l 1 (s .h) (t .h) (4 * t .w))
-      (e ∙ rows-same (r .s-sized .w-low) (r .t-sized .w-low) (s .h) (passOf kind mode) (local kind mode) _)
-      ∙ level-passed (passOf kind mode) (local kind mode) s t (r .s-sized) (take (levelBytes s) picture)
+  pub level-made : (mode : EdgeMode) {q : Rows} {mid last : List ℕ} → q ≡ rowsOf w (f .planes * h) (f .lanes) v →
+      mid ≡ passed (passOf kind mode) (take before picture) (q .lines) w v (q .stride) →
+      last ≡ passed (passOf kind mode) mid (f .planes) h u (v * f .lanes) →
+      last ≡ formPass f (passOf kind mode) s t (take (formBytes f (s .w) (s .h)) picture)
+  level-made mode eq e made =
+      made
+      ∙ ap (λ (l : List ℕ). passed (passOf kind mode) l (f .planes) h u (v * f .lanes))
+      (e ∙ ap (λ (p : Rows). passed (passOf kind mode) (take before picture) (p .lines) w v (p .stride)) eq ∙ rows-same w-low v-low (f .planes * h) (f .lanes) (passOf kind mode) (local kind mode) _)
+      ∙ rw (eb, ew, eh, ev, eu) (form-passed f (passOf kind mode) (local kind mode) s t (r .s-sized) (take (formBytes f (s .w) (s .h)) picture))
 
 -- a list of n bytes is its own first n
 pub whole : (n : ℕ) (l : List ℕ) → length l ≡ n → take n l ≡ l
 whole n l e = take-all n l (omega arith)
 
--- what is between the two passes is no larger than the larger level
-between : (w h v u : ℕ) → v ≤ w → u ≤ h → u * (v * 4) ≤ bytesOf w h
-between w h v u a b = rw (rows-bytes w h) (mul-le-mul {n₁ = u} {m₁ = v * 4} {n₂ = h} {m₂ = w * 4} b (omega arith))
+module _ {f : Form} {picture scratch : List ℕ} {s : LevelSize} (b : LevelBuffers f picture scratch s) where
+  abbrev v : ℕ
+  v = half (s .w)
 
-module _ {picture scratch : List ℕ} {s : LevelSize} (b : LevelBuffers picture scratch s) where
-  small : levelBytes (halfLevel s) ≤ levelBytes s
-  small = half-fits s (b .sized)
+  abbrev u : ℕ
+  u = half (s .h)
+
+  narrow : v ≤ s .w
+  narrow = omega (arith, b .sized .w-low)
+
+  low : u ≤ s .h
+  low = omega (arith, b .sized .h-low)
 
   -- a level becomes its half, ..
-  pub halving : Levels Halve picture scratch s (halfLevel s)
+  pub halving : Levels f Halve picture scratch s (halfLevel s)
   halving =
       record {
+        formed = b .formed;
         s-sized = b .sized;
         t-sized = half-sized s (b .sized);
         wide = refl;
         high = refl;
         s-fits = omega (arith, b .picture-length);
-        t-fits = omega (arith, b .picture-length, small);
-        between-fits = omega (arith, b .scratch-length, between (s .w) (s .h) (half (s .w)) (s .h) (omega (arith, b .sized .w-low)) (omega arith));
+        t-fits = omega (arith, b .picture-length, form-grows f narrow low);
+        between-fits = omega (arith, b .scratch-length, form-grows f {u = s .h} {h = s .h} narrow (omega arith));
       }
 
   -- .. and its half becomes the level
-  pub doubling : Levels Double picture scratch (halfLevel s) s
+  pub doubling : Levels f Double picture scratch (halfLevel s) s
   doubling =
       record {
+        formed = b .formed;
         s-sized = half-sized s (b .sized);
         t-sized = b .sized;
         wide = refl;
         high = refl;
-        s-fits = omega (arith, b .picture-length, small);
+        s-fits = omega (arith, b .picture-length, form-grows f narrow low);
         t-fits = omega (arith, b .picture-length);
-        between-fits = omega (arith, b .scratch-length, between (s .w) (s .h) (s .w) (half (s .h)) (omega arith) (omega (arith, b .sized .h-low)));
+        between-fits = omega (arith, b .scratch-length, form-grows f {v = s .w} {w = s .w} (omega arith) low);
       }

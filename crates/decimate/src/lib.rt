@@ -1,13 +1,14 @@
-// Halving and doubling of whole levels.
+// Halving and doubling of whole levels, in any form.
 ghost use mathlib.Core.Path.{_≡_};
-ghost use Prim.Native.Nat.{_≤_};
+ghost use Prim.Native.Nat.{_*_, _≤_};
 ghost use lib.ListN.{take};
-ghost use Rattle.picture.specs.Sizes.{sideRoom, halfLevel, levelBytes};
+ghost use Rattle.picture.specs.Sizes.{sideRoom, halfLevel};
 ghost use Rattle.passes.specs.Passes.{halve, double};
-ghost use Rattle.passes.specs.Levels.{levelPass};
+ghost use Rattle.passes.specs.Forms.{formBytes, formPass};
 ghost use Rattle.resize.specs.Resize.{passOf};
 ghost use Rattle.decimate.specs.Rows.{rowsOf};
 ghost use Rattle.decimate.specs.Room.{Levels, LevelBuffers};
+use passes::Form;
 use picture::EdgeMode;
 use picture::LevelSize;
 use resize::Resize;
@@ -18,44 +19,47 @@ struct Rows {
     stride: usize,
 }
 
-// h rows of w pixels that become v wide, as lines. No side is 0: where the two sum to 2, every row is one pixel and stays so, and all
-// rows are one element of one line, since h lines of four bytes each cost far more.
-fn rows_of(w: usize, h: usize, v: usize) -> Rows
-    requires { ⌜ (w ≤ sideRoom) × (h ≤ sideRoom) × (v ≤ sideRoom) ⌝ }
-    ensures { λ r. ⌜ r ≡ rowsOf w h v ⌝ }
+// Rows of w elements that become v wide, as lines. No side is 0: where the two sum to 2, every row is one element and stays so, and all
+// rows are one element of one line, since as many lines of a few bytes each cost far more.
+fn rows_of(w: usize, lines: usize, lanes: usize, v: usize) -> Rows
+    requires { ⌜ (w ≤ sideRoom) × (lines ≤ 4 * sideRoom) × (lanes ≤ 4) × (v ≤ sideRoom) ⌝ }
+    ensures { λ r. ⌜ r ≡ rowsOf w lines lanes v ⌝ }
 {
     if w + v == 2 {
         return Rows {
             lines: 1,
-            stride: h * 4,
+            stride: lines * lanes,
         };
     }
     Rows {
-        lines: h,
-        stride: 4,
+        lines: lines,
+        stride: lanes,
     }
 }
 
 // A level of size s made one of size t: rows to scratch, then columns back.
-fn resize_level(
+fn resize_form(
     picture: &mut [u8],
     scratch: &mut [u8],
     s: LevelSize,
     t: LevelSize,
+    form: Form,
     mode: EdgeMode,
     kind: Resize,
 )
-    requires { ⌜ Levels kind (now picture) (now scratch) s t ⌝ }
-    ensures { λ _. ⌜ take (levelBytes t) (now (picture .exit)) ≡ levelPass (passOf kind mode) s t (take (levelBytes s) (now (picture .entry))) ⌝ }
+    requires { ⌜ Levels form kind (now picture) (now scratch) s t ⌝ }
+    ensures { λ _. ⌜ take (formBytes form (t .w) (t .h)) (now (picture .exit)) ≡ formPass form (passOf kind mode) s t (take (formBytes form (s .w) (s .h)) (now (picture .entry))) ⌝ }
 {
     let w = s.width();
     let h = s.height();
     let v = t.width();
     let u = t.height();
-    let before = s.bytes();
-    let after = t.bytes();
-    let between = h * (v * 4);
-    let rows = rows_of(w, h, v);
+    let before = passes::form_bytes(form, s);
+    let after = passes::form_bytes(form, t);
+    let lines = form.planes * h;
+    let stride = v * form.lanes;
+    let between = lines * stride;
+    let rows = rows_of(w, lines, form.lanes, v);
     resize::resize_lines(
         &picture[..before],
         &mut scratch[..between],
@@ -69,27 +73,27 @@ fn resize_level(
     resize::resize_lines(
         &scratch[..between],
         &mut picture[..after],
-        1,
+        form.planes,
         h,
         u,
-        4 * v,
+        stride,
         mode,
         kind,
     );
 }
 
 // The level of size s, halved: its bytes are the first of the picture.
-pub fn halve_level(picture: &mut [u8], scratch: &mut [u8], s: LevelSize, mode: EdgeMode)
-    requires { ⌜ LevelBuffers (now picture) (now scratch) s ⌝ }
-    ensures { λ _. ⌜ take (levelBytes (halfLevel s)) (now (picture .exit)) ≡ levelPass (halve mode) s (halfLevel s) (now (picture .entry)) ⌝ }
+pub fn halve_form(picture: &mut [u8], scratch: &mut [u8], s: LevelSize, form: Form, mode: EdgeMode)
+    requires { ⌜ LevelBuffers form (now picture) (now scratch) s ⌝ }
+    ensures { λ _. ⌜ take (formBytes form (halfLevel s .w) (halfLevel s .h)) (now (picture .exit)) ≡ formPass form (halve mode) s (halfLevel s) (now (picture .entry)) ⌝ }
 {
-    resize_level(picture, scratch, s, s.half(), mode, Resize::Halve);
+    resize_form(picture, scratch, s, s.half(), form, mode, Resize::Halve);
 }
 
 // The half of the level of size s, doubled: its bytes are the first of the picture.
-pub fn double_level(picture: &mut [u8], scratch: &mut [u8], s: LevelSize, mode: EdgeMode)
-    requires { ⌜ LevelBuffers (now picture) (now scratch) s ⌝ }
-    ensures { λ _. ⌜ now (picture .exit) ≡ levelPass (double mode) (halfLevel s) s (take (levelBytes (halfLevel s)) (now (picture .entry))) ⌝ }
+pub fn double_form(picture: &mut [u8], scratch: &mut [u8], s: LevelSize, form: Form, mode: EdgeMode)
+    requires { ⌜ LevelBuffers form (now picture) (now scratch) s ⌝ }
+    ensures { λ _. ⌜ now (picture .exit) ≡ formPass form (double mode) (halfLevel s) s (take (formBytes form (halfLevel s .w) (halfLevel s .h)) (now (picture .entry))) ⌝ }
 {
-    resize_level(picture, scratch, s.half(), s, mode, Resize::Double);
+    resize_form(picture, scratch, s.half(), s, form, mode, Resize::Double);
 }

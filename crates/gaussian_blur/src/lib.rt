@@ -1,42 +1,49 @@
 // The Gaussian blur with decimation: apply_blur, and the entry `blur`.
+use passes::Form;
 use picture::EdgeMode;
 use picture::FullSize;
 use picture::LevelSize;
 ghost use mathlib.Core.Path.{_≡_};
+ghost use lib.ListN.{length};
 ghost use Rattle.picture.specs.Planes.{bytesOf, cleared};
+ghost use Rattle.picture.specs.Sizes.{Sized};
 ghost use Rattle.picture.specs.Refusal.{firstElse, firstOf};
 ghost use Rattle.picture.specs.Answer.{answered, lent};
-ghost use Rattle.gaussian_blur.specs.Blurred.{blurred};
+ghost use Rattle.passes.specs.Forms.{formBytes, Formed};
+ghost use Rattle.passes.specs.Kernel.{Kernel};
+ghost use Rattle.gaussian_blur.specs.Blurred.{blurredForm};
 ghost use Rattle.gaussian_blur.specs.Needs.{BlurReady, BlurAccepted};
 ghost use Rattle.gaussian_blur.specs.Outcome.{kernelChecks, blurChecks, blurredOrKept, blurOutcome};
 
-// Halves, blurs with one decimation fewer, and doubles; with none left it convolves.
-fn apply_blur(
+// Halves, blurs with one decimation fewer, and doubles, in any form; with none left it convolves.
+pub fn apply_blur(
     picture: &mut [u8],
     scratch: &mut [u8],
     s: LevelSize,
+    form: Form,
     n: u32,
     weights: &[f32],
     mode: EdgeMode,
 )
-    requires { ⌜ BlurReady (s .w) (s .h) (now picture) (now scratch) (now weights) ⌝ }
-    ensures { λ _. ⌜ now (picture .exit) ≡ blurred mode (now (weights .entry)) n (s .w) (s .h) (now (picture .entry)) ⌝ }
+    requires { ⌜ Formed form ⌝ ∗ ⌜ Sized s ⌝ ∗ ⌜ length (now picture) ≡ formBytes form (s .w) (s .h) ⌝ ∗ ⌜ length (now scratch) ≡ formBytes form (s .w) (s .h) ⌝ ∗ ⌜ Kernel (now weights) ⌝ }
+    ensures { λ _. ⌜ now (picture .exit) ≡ blurredForm form mode (now (weights .entry)) n (s .w) (s .h) (now (picture .entry)) ⌝ }
 {
     if n == 0 {
-        convolve::convolve_level(picture, scratch, s, weights, mode);
+        convolve::convolve_form(picture, scratch, s, form, weights, mode);
     } else {
         let t = s.half();
-        let k = t.bytes();
-        decimate::halve_level(picture, scratch, s, mode);
+        let k = passes::form_bytes(form, t);
+        decimate::halve_form(picture, scratch, s, form, mode);
         apply_blur(
             &mut picture[..k],
             &mut scratch[..k],
             t,
+            form,
             n - 1,
             weights,
             mode,
         );
-        decimate::double_level(picture, scratch, s, mode);
+        decimate::double_form(picture, scratch, s, form, mode);
     }
 }
 
@@ -54,7 +61,18 @@ pub fn blur_or_keep(
     ensures { λ _. ⌜ now (picture .exit) ≡ blurredOrKept mode (now (weights .entry)) n strength (size .w) (size .h) (now (picture .entry)) ⌝ }
 {
     if 0.0 < strength {
-        apply_blur(picture, scratch, size.level_zero(), n, weights, mode);
+        apply_blur(
+            picture,
+            scratch,
+            size.level_zero(),
+            Form {
+                planes: 1,
+                lanes: 4,
+            },
+            n,
+            weights,
+            mode,
+        );
     }
 }
 

@@ -3,30 +3,28 @@ use Prim.Native.Nat.{ℕ, _<_, _≤_}
 use mathlib.Core.Path.{_≡_, _∙_, sym}
 use mathlib.Core.List.{List, _++_}
 use native.Mathlib.Omega.{arith}
-use lib.ListN.{length, drop}
-use lib.Seq.{length-take-le, length-front}
+use lib.ListN.{length, take, drop}
+use lib.Seq.{length-take-le}
 use borrow.Author.Needs.{needs}
 use borrow.Fn.Kinds.{In}
 use borrow.Fn.PlainCycle.{Measures, is, falls, and}
-use Rattle.picture.specs.Sizes.{levelBytes}
-use Rattle.picture.proofs.Sizes.{half-sized}
 use Rattle.passes.specs.Passes.{convolve}
+use Rattle.passes.specs.Forms.{formBytes}
 use Rattle.passes.proofs.Local.{convolve-local}
-use Rattle.gaussian_blur.specs.Blurred.{blurred}
-use Rattle.gaussian_blur.proofs.Step.{blurred-none, step, part-fits}
+use Rattle.gaussian_blur.proofs.Step.{blurred-none, step, part-sized, part-fits, part-long, part-back}
 use Rattle.gaussian_blur.proofs.apply_blur.Reads as apply-blur
 use Rattle.gaussian_blur.proofs.apply_blur.Kinds as kinds
 use Rattle.gaussian_blur.proofs.+apply_blur.Lts-apply_blur as lts
-use Rattle.convolve.proofs.convolve_level.Reads as convolve-level-reads
-use Rattle.decimate.proofs.double_level.Reads as double-level-reads
-use Rattle.decimate.proofs.halve_level.Reads as halve-level-reads
-use Rattle.picture.proofs.LevelSize.bytes.Reads as bytes-reads
-use Rattle.picture.proofs.LevelSize.half.Reads as half-reads
+use Rattle.convolve.proofs.convolve_form.Reads as convolve-form
+use Rattle.decimate.proofs.double_form.Reads as double-form
+use Rattle.decimate.proofs.halve_form.Reads as halve-form
+use Rattle.passes.proofs.form_bytes.Reads as form-bytes
+use Rattle.picture.proofs.LevelSize.half.Reads as half
 use Rattle.gaussian_blur.proofs.+apply_blur.{statement}
 use Rattle.gaussian_blur.proofs.+apply_blur.Tie.{close}
 
 abbrev μ : Measures 3 kinds.ps ℕ
-μ κs a = a .1 .1 .1 .0
+μ κs a = a .1 .1 .1 .1 .0
 
 -- what `apply_blur` is given at the measure t, and what its calls ask and say
 abbrev at : ℕ → In 3 kinds.ps
@@ -34,157 +32,105 @@ at t = and 3 kinds.ps (is 3 kinds.ps μ t) apply-blur.Pre
 
 abbrev calls : ℕ → lts.Claims
 calls t = (
-  convolve-level-reads.Asked,
-  convolve-level-reads.Learnt,
-  half-reads.Asked,
-  half-reads.Learnt,
-  bytes-reads.Asked,
-  bytes-reads.Learnt,
-  halve-level-reads.Asked,
-  halve-level-reads.Learnt,
+  convolve-form.Asked,
+  convolve-form.Learnt,
+  half.Asked,
+  half.Learnt,
+  form-bytes.Asked,
+  form-bytes.Learnt,
+  halve-form.Asked,
+  halve-form.Learnt,
   and 3 kinds.ps (falls 3 kinds.ps _<_ μ t) apply-blur.Pre,
   apply-blur.Post,
-  double-level-reads.Asked,
-  double-level-reads.Learnt,
+  double-form.Asked,
+  double-form.Learnt,
 )
 
 module _ (t : ℕ) where
-  convolve-level-requires : lts.Need-convolve-level-requires (calls t) (at t) apply-blur.Post
-  convolve-level-requires c κs =
-      let r = c .before .before .before .before .before .before .pre .1 in
-      (r .pictured .sized, (r .pictured .exact, (r .scratch-is, r .kernel)))
+  -- once the level below is measured: it takes the first part of either buffer
+  module _ (b : lts.After-form-bytes (calls t) (at t) apply-blur.Post) where
+    abbrev start : lts.Start (calls t) (at t) apply-blur.Post
+    start = b .before .before .before .before .before .before
 
-  half-requires : lts.Need-half-requires (calls t) (at t) apply-blur.Post
-  half-requires c κs = c .before .before .before .before .pre .1 .pictured .sized
+    abbrev bytes : ℕ
+    bytes = formBytes (start .args .form) (start .args .s .w) (start .args .s .h)
 
-  bytes-requires : lts.Need-bytes-requires (calls t) (at t) apply-blur.Post
-  bytes-requires c κs = let st = c .before .before .before .before .before in rw (c .half .ensures) (half-sized (st .args .s) (st .pre .1 .pictured .sized))
+    fits : (l : List ℕ) → length l ≡ bytes → b .form-bytes .result ≤ length l
+    fits = part-fits (start .args .form) (start .args .s) (start .pre .1 .1 .0) (b .before .half .ensures) (b .form-bytes .ensures)
 
-  halve-level-requires : lts.Need-halve-level-requires (calls t) (at t) apply-blur.Post
-  halve-level-requires c κs =
-      let r = c .before .before .before .before .before .before .before .before .pre .1 in record { sized = r .pictured .sized; picture-length = r .pictured .exact; scratch-length = r .scratch-is }
+    counts : (l : List ℕ) → length l ≡ bytes → b .form-bytes .result ≡ length (take (b .form-bytes .result) l)
+    counts l e = sym (length-take-le _ l (fits l e))
 
-  -- after the halving: the part is as long as its size says, and lies within both buffers
-  part : (c : lts.After-halve-level (calls t) (at t) apply-blur.Post) →
-      let k = c .before .before .before .bytes .result in
-      let s = c .before .before .before .before .before .before .before .before .before .args .s in
-      (k ≤ length (c .halve-level .last .0)) × (k ≤ length (c .halve-level .last .1 .0)) ×
-      (length (c .halve-level .last .0) ≡ levelBytes s) × (length (c .halve-level .last .1 .0) ≡ levelBytes s)
-  part c =
-      let b = c .before .before .before in
-      let st = b .before .before .before .before .before .before in
-      let l₀ : length (c .halve-level .last .0) ≡ levelBytes (st .args .s) = c .halve-level .kept .0 ∙ st .pre .1 .pictured .exact in
-      let l₁ : length (c .halve-level .last .1 .0) ≡ levelBytes (st .args .s) = c .halve-level .kept .1 .0 ∙ st .pre .1 .scratch-is in
-      (fits b (c .halve-level .last .0) l₀, fits b (c .halve-level .last .1 .0) l₁, l₀, l₁)
-    where
-      fits : (b : lts.After-bytes (calls t) (at t) apply-blur.Post) (l : List ℕ) → length l ≡ levelBytes (b .before .before .before .before .before .before .args .s) → b .bytes .result ≤ length l
-      fits b l e = let st = b .before .before .before .before .before .before in part-fits (st .args .s) (st .pre .1 .pictured .sized) (b .before .half .ensures) (b .bytes .ensures) l e
+    long : (l : List ℕ) → length l ≡ bytes → length (take (b .form-bytes .result) l) ≡ formBytes (start .args .form) (b .before .half .result .w) (b .before .half .result .h)
+    long = part-long (start .args .form) (start .args .s) (start .pre .1 .1 .0) (b .before .half .ensures) (b .form-bytes .ensures)
 
-  part-picture : lts.Need-slice-relend-prefix-apply-blur (calls t) (at t) apply-blur.Post
-  part-picture c = part (c .before .before .before .before) .0
+    whole : (l : List ℕ) → length l ≡ bytes → (part : List ℕ) → length part ≡ length (take (b .form-bytes .result) l) → length (part ++ drop (b .form-bytes .result) l) ≡ bytes
+    whole = part-back (start .args .form) (start .args .s) (start .pre .1 .1 .0) (b .before .half .ensures) (b .form-bytes .ensures)
 
-  count-picture : lts.Need-slice-aggregate-apply-blur (calls t) (at t) apply-blur.Post
-  count-picture c = sym (length-take-le _ _ (part (c .before .before .before .before .before) .0))
+  -- once halved: the buffers are as long as they were
+  module _ (h : lts.After-halve-form (calls t) (at t) apply-blur.Post) where
+    abbrev size : lts.After-form-bytes (calls t) (at t) apply-blur.Post
+    size = h .before .before .before
 
-  part-scratch : lts.Need-slice-relend-prefix-apply-blur-2 (calls t) (at t) apply-blur.Post
-  part-scratch c = part (c .before .before .before .before .before) .1
+    picture-is : length (h .halve-form .last .0) ≡ bytes size
+    picture-is = h .halve-form .kept .0 ∙ start size .pre .1 .1 .1 .0
 
-  count-scratch : lts.Need-slice-aggregate-apply-blur-2 (calls t) (at t) apply-blur.Post
-  count-scratch c = sym (length-take-le _ _ (part (c .before .before .before .before .before .before) .1))
+    scratch-is : length (h .halve-form .last .1 .0) ≡ bytes size
+    scratch-is = h .halve-form .kept .1 .0 ∙ start size .pre .1 .1 .1 .1 .0
 
-  sub-n : lts.Need-sub-apply-blur (calls t) (at t) apply-blur.Post
-  sub-n c = omega arith
+  -- once the level below is blurred: both buffers are whole again
+  module _ (r : lts.After-apply-blur (calls t) (at t) apply-blur.Post) where
+    abbrev halved : lts.After-halve-form (calls t) (at t) apply-blur.Post
+    halved = r .before .before .before .before .before .before .before
 
-  self-requires : lts.Need-apply-blur-requires (calls t) (at t) apply-blur.Post
-  self-requires c κs =
+    picture-back : length (r .apply-blur .last .0 ++ drop (size halved .form-bytes .result) (halved .halve-form .last .0)) ≡ bytes (size halved)
+    picture-back = whole (size halved) (halved .halve-form .last .0) (picture-is halved) (r .apply-blur .last .0) (r .apply-blur .kept .0)
+
+    scratch-back : length (r .apply-blur .last .1 .0 ++ drop (size halved .form-bytes .result) (halved .halve-form .last .1 .0)) ≡ bytes (size halved)
+    scratch-back = whole (size halved) (halved .halve-form .last .1 .0) (scratch-is halved) (r .apply-blur .last .1 .0) (r .apply-blur .kept .1 .0)
+
+  below : lts.Need-apply-blur-requires (calls t) (at t) apply-blur.Post
+  below c κs =
       let h = c .before .before .before .before .before .before in
-      let b = h .before .before .before in
-      let st = b .before .before .before .before .before .before in (
+      let b = size h in
+      let st = start b in (
         omega (arith, st .pre .0, b .before .before .if1 .left),
-        record {
-          pictured = record {
-            sized = rw (b .before .half .ensures) (half-sized (st .args .s) (st .pre .1 .pictured .sized));
-            exact = length-take-le _ _ (part h .0) ∙ b .bytes .ensures;
-          };
-          scratch-is = length-take-le _ _ (part h .1) ∙ b .bytes .ensures;
-          kernel = st .pre .1 .kernel;
-        },
+        (st .pre .1 .0, (part-sized (st .args .form) (st .args .s) (st .pre .1 .1 .0) (b .before .half .ensures), (long b (h .halve-form .last .0) (picture-is h), (long b (h .halve-form .last .1 .0) (scratch-is h), st .pre .1 .1 .1 .1 .1)))),
       )
 
-  -- after the self-call: both buffers are whole again
-  back : (c : lts.After-apply-blur (calls t) (at t) apply-blur.Post) →
-      let h = c .before .before .before .before .before .before .before in
-      let k = h .before .before .before .bytes .result in
-      let s = h .before .before .before .before .before .before .before .before .before .args .s in
-      (length (c .apply-blur .last .0 ++ drop k (h .halve-level .last .0)) ≡ levelBytes s) × (length (c .apply-blur .last .1 .0 ++ drop k (h .halve-level .last .1 .0)) ≡ levelBytes s)
-  back c =
-      let h = c .before .before .before .before .before .before .before in
-      let k = h .before .before .before .bytes .result in (
-        length-front (h .halve-level .last .0) (c .apply-blur .last .0) k (c .apply-blur .kept .0) ∙ part h .2,
-        length-front (h .halve-level .last .1 .0) (c .apply-blur .last .1 .0) k (c .apply-blur .kept .1 .0) ∙ part h .3,
-      )
-
-  double-level-requires : lts.Need-double-level-requires (calls t) (at t) apply-blur.Post
-  double-level-requires c κs =
-      let r = c .before .before .before .before .before .before in
-      record { sized = r .before .before .before .before .before .before .before .before .before .before .before .before .before .before .before .before .pre .1 .pictured .sized; picture-length = back r .0; scratch-length = back r .1 }
-
-  same-length : lts.Need-same-length (calls t) (at t) apply-blur.Post
-  same-length c = search needs
-
-  same-length-2 : lts.Need-same-length-2 (calls t) (at t) apply-blur.Post
-  same-length-2 c = search needs
-
-  returns : lts.Need-returns (calls t) (at t) apply-blur.Post
-  unfolding blurred
-  returns c =
+  none-left : lts.Need-returns (calls t) (at t) apply-blur.Post
+  none-left c =
       let v = c .before .before .before .before in
       let st = v .before .before .before .before .before .before .before in
       let a = st .args in
-      v .convolve-level .ensures ∙ blurred-none (convolve (a .mode) (a .weights .now)) (convolve-local (a .mode) (a .weights .now)) (a .mode) (a .s) (st .pre .1 .pictured .sized) (a .picture .now) (a .n) (v .before .before .before .if1 .taken)
+      v .convolve-form .ensures ∙ blurred-none (a .form) (convolve (a .mode) (a .weights .now)) (convolve-local (a .mode) (a .weights .now)) (a .mode) (a .s) (st .pre .1 .1 .0) (a .picture .now) (a .n) (v .before .before .before .if1 .taken)
 
-  same-length-3 : lts.Need-same-length-3 (calls t) (at t) apply-blur.Post
-  same-length-3 c =
+  more-left : lts.Need-returns-2 (calls t) (at t) apply-blur.Post
+  more-left c =
       let d = c .before .before .before .before in
       let r = d .before .before .before .before .before .before .before in
-      d .double-level .kept .0 ∙ back r .0 ∙ sym (r .before .before .before .before .before .before .before .before .before .before .before .before .before .before .before .before .pre .1 .pictured .exact)
-
-  same-length-4 : lts.Need-same-length-4 (calls t) (at t) apply-blur.Post
-  same-length-4 c =
-      let d = c .before .before .before .before in
-      let r = d .before .before .before .before .before .before .before in
-      d .double-level .kept .1 .0 ∙ back r .1 ∙ sym (r .before .before .before .before .before .before .before .before .before .before .before .before .before .before .before .before .pre .1 .scratch-is)
-
-  returns-2 : lts.Need-returns-2 (calls t) (at t) apply-blur.Post
-  unfolding blurred
-  returns-2 c =
-      let d = c .before .before .before .before in
-      let r = d .before .before .before .before .before .before .before in
-      let h = r .before .before .before .before .before .before .before in
-      let b = h .before .before .before in
-      let st = b .before .before .before .before .before .before in
-      let a = st .args in
-      step (convolve (a .mode) (a .weights .now)) (convolve-local (a .mode) (a .weights .now)) (a .mode) (a .s) (st .pre .1 .pictured .sized) (a .picture .now) (a .n) (b .before .half .result) (b .bytes .result) (h .halve-level .last .0) (r .apply-blur .last .0) (d .double-level .last .0)
-      (b .before .before .if1 .left) (b .before .half .ensures) (b .bytes .ensures) (part h .0) (r .apply-blur .kept .0) (h .halve-level .ensures) (r .apply-blur .ensures) (d .double-level .ensures)
+      let h = halved r in
+      let b = size h in
+      let a = start b .args in
+      step (a .form) (convolve (a .mode) (a .weights .now)) (convolve-local (a .mode) (a .weights .now)) (a .mode) (a .s) (start b .pre .1 .1 .0) (a .picture .now) (a .n) (b .before .half .result) (b .form-bytes .result) (h .halve-form .last .0) (r .apply-blur .last .0) (d .double-form .last .0)
+      (b .before .before .if1 .left) (b .before .half .ensures) (b .form-bytes .ensures) (fits b (h .halve-form .last .0) (picture-is h)) (r .apply-blur .kept .0) (h .halve-form .ensures) (r .apply-blur .ensures) (d .double-form .ensures)
 
 pub +apply-blur-spec : {M : Type 1} → statement M
-+apply-blur-spec = close μ λ t. lts.spec (calls t)
-    (at t)
-    apply-blur.Post
-    (convolve-level-requires t)
-    (half-requires t)
-    (bytes-requires t)
-    (halve-level-requires t)
-    (part-picture t)
-    (count-picture t)
-    (part-scratch t)
-    (count-scratch t)
-    (sub-n t)
-    (self-requires t)
-    (double-level-requires t)
-    (same-length t)
-    (same-length-2 t)
-    (returns t)
-    (same-length-3 t)
-    (same-length-4 t)
-    (returns-2 t)
++apply-blur-spec = close μ λ t. lts.spec (calls t) (at t) apply-blur.Post
+    (λ c κs. c .before .before .before .before .before .before .pre .1)
+    (λ c κs. c .before .before .before .before .pre .1 .1 .0)
+    (λ c κs. let st = c .before .before .before .before .before in (st .pre .1 .0, part-sized (st .args .form) (st .args .s) (st .pre .1 .1 .0) (c .half .ensures)))
+    (λ c κs. let p = c .before .before .before .before .before .before .before .before .pre .1 in record { formed = p .0; sized = p .1 .0; picture-length = p .1 .1 .0; scratch-length = p .1 .1 .1 .0 })
+    (λ c. let h = c .before .before .before .before in fits t (size t h) (h .halve-form .last .0) (picture-is t h))
+    (λ c. let h = c .before .before .before .before .before in counts t (size t h) (h .halve-form .last .0) (picture-is t h))
+    (λ c. let h = c .before .before .before .before .before in fits t (size t h) (h .halve-form .last .1 .0) (scratch-is t h))
+    (λ c. let h = c .before .before .before .before .before .before in counts t (size t h) (h .halve-form .last .1 .0) (scratch-is t h))
+    (λ c. omega arith)
+    (below t)
+    (λ c κs. let r = c .before .before .before .before .before .before in let p = start t (size t (halved t r)) .pre .1 in record { formed = p .0; sized = p .1 .0; picture-length = picture-back t r; scratch-length = scratch-back t r })
+    (λ c. search needs)
+    (λ c. search needs)
+    (none-left t)
+    (λ c. let d = c .before .before .before .before in let r = d .before .before .before .before .before .before .before in d .double-form .kept .0 ∙ picture-back t r ∙ sym (start t (size t (halved t r)) .pre .1 .1 .1 .0))
+    (λ c. let d = c .before .before .before .before in let r = d .before .before .before .before .before .before .before in d .double-form .kept .1 .0 ∙ scratch-back t r ∙ sym (start t (size t (halved t r)) .pre .1 .1 .1 .1 .0))
+    (more-left t)

@@ -1,20 +1,31 @@
 -- By the strength: blurred from level 0 on, or left alone.
-use mathlib.Core.Path.{_∙_}
+use mathlib.Core.Path.{_∙_, sym}
 use lib.Ieee.{ofBits}
+use Rattle.passes.specs.Passes.{convolve}
+use Rattle.passes.proofs.Forms.{pixels-formed, pixel-bytes}
+use Rattle.passes.proofs.Local.{convolve-local}
+use Rattle.gaussian_blur.specs.Blurred.{blurred}
+use Rattle.gaussian_blur.proofs.Step.{pixels-blurred}
 use Rattle.gaussian_blur.proofs.Outcomes.{blurs, keeps}
 use borrow.Author.Needs.{needs}
 use Rattle.gaussian_blur.proofs.blur_or_keep.Statement.{statement}
 use Rattle.gaussian_blur.proofs.blur_or_keep.Tie as tie
 
 apply-blur-requires : tie.Need-apply-blur-requires
-apply-blur-requires c κs = rw (c .level-zero .ensures) (c .before .before .before .before .before .before .before .pre)
+apply-blur-requires c κs =
+    let s = c .before .before .before .before .before .before .before in
+    let z = s .args .size in
+    let as-formed = sym (pixel-bytes (z .w) (z .h)) in
+    rw (c .level-zero .ensures) (pixels-formed, (s .pre .pictured .sized, (s .pre .pictured .exact ∙ as-formed, (s .pre .scratch-is ∙ as-formed, s .pre .kernel))))
 
 returns : tie.Need-returns
-unfolding ofBits
+unfolding ofBits blurred
 returns c =
     let v = c .before .before .before .before in
-    let a = v .before .before .before .before .before .before .before .before .args in
+    let s = v .before .before .before .before .before .before .before .before in
+    let a = s .args in
     rw (v .before .level-zero .ensures) at (v .apply-blur .ensures)
+    ∙ pixels-blurred (convolve (a .mode) (a .weights .now)) (convolve-local (a .mode) (a .weights .now)) (a .mode) (a .n) (a .size .w) (a .size .h) (s .pre .pictured .sized) (a .picture .now)
     ∙ blurs (a .mode) (a .weights .now) (a .n) (a .strength) (a .size .w) (a .size .h) (a .picture .now) (v .before .before .before .before .if1 .taken)
 
 returns-2 : tie.Need-returns-2
