@@ -1,4 +1,5 @@
 // The blur in whole numbers: the recursion over levels, and the entry `blur_whole`. No float is used here or in what it calls.
+use passes::Form;
 use picture::EdgeMode;
 use picture::FullSize;
 use picture::LevelSize;
@@ -27,7 +28,11 @@ fn apply_whole(
     } else {
         let t = s.half();
         let k = t.bytes();
-        decimate::halve_level(picture, scratch, s, mode);
+        let form = Form {
+            planes: 1,
+            lanes: 4,
+        };
+        decimate::halve_form(picture, scratch, s, form, mode);
         apply_whole(
             &mut picture[..k],
             &mut scratch[..k],
@@ -36,7 +41,7 @@ fn apply_whole(
             numerators,
             mode,
         );
-        decimate::double_level(picture, scratch, s, mode);
+        decimate::double_form(picture, scratch, s, form, mode);
     }
 }
 
