@@ -2,9 +2,8 @@
 ghost use mathlib.Core.Path.{_≡_};
 ghost use Prim.Native.Nat.{ℕ, _*_, _≤_, _<_};
 ghost use lib.ListN.{length, getD};
-ghost use Rattle.picture.specs.Sizes.{levelBytes, Sized};
+ghost use Rattle.picture.specs.Sizes.{Sized};
 ghost use Rattle.passes.specs.Passes.{convolve};
-ghost use Rattle.passes.specs.Levels.{levelPass};
 ghost use Rattle.passes.specs.Forms.{formBytes, formPass, Formed};
 ghost use Rattle.passes.specs.Written.{lineByte, passed};
 ghost use Rattle.passes.specs.Kernel.{Kernel};
@@ -229,30 +228,6 @@ pub fn convolve_form(
         form.planes,
         h,
         w * form.lanes,
-        weights,
-        mode,
-    );
-}
-
-// A level of pixels convolved.
-pub fn convolve_level(
-    picture: &mut [u8],
-    scratch: &mut [u8],
-    s: LevelSize,
-    weights: &[f32],
-    mode: EdgeMode,
-)
-    requires { ⌜ Sized s ⌝ ∗ ⌜ length (now picture) ≡ levelBytes s ⌝ ∗ ⌜ length (now scratch) ≡ levelBytes s ⌝ ∗ ⌜ Kernel (now weights) ⌝ }
-    ensures { λ _. ⌜ now (picture .exit) ≡ levelPass (convolve mode (now (weights .entry))) s s (now (picture .entry)) ⌝ }
-{
-    convolve_form(
-        picture,
-        scratch,
-        s,
-        Form {
-            planes: 1,
-            lanes: 4,
-        },
         weights,
         mode,
     );

@@ -8,18 +8,17 @@ use native.Mathlib.Omega.{arith}
 use lib.Ieee.{Float}
 use lib.ListN.{length}
 use Rattle.picture.specs.Planes.{Plane, bytesOf}
-use Rattle.picture.specs.Sizes.{Sides, levelSize}
+use Rattle.picture.specs.Sizes.{Sides}
 use Rattle.picture.specs.declared.EdgeMode.{EdgeMode}
 use Rattle.passes.specs.Passes.{halve, double, convolve}
-use Rattle.passes.specs.Blur.{blur}
-use Rattle.passes.specs.Forms.{ofPlanes, formBytes, readAs, writeAs, formPass}
+use Rattle.passes.specs.Forms.{ofPlanes, formBytes, readAs, writeAs}
 use Rattle.passes.proofs.Forms.{length-write, read-write}
 use Rattle.passes.proofs.Local.{halve-local, double-local, convolve-local, blur-local}
 use Rattle.passes.proofs.Planes.{at}
 use Rattle.planes.specs.Planar.{planeOf, paintedPlanes, planar, interleaved, onPlanes}
 use Rattle.planes.proofs.Planar.{planes-ext}
 use Rattle.planes.proofs.Once.{there, on-planes}
-use Rattle.gaussian_blur.specs.Blurred.{blurredPlane, blurred}
+use Rattle.gaussian_blur.specs.Blurred.{blurredPlane, blurred, blurredForm}
 use Rattle.gaussian_blur.specs.Outcome.{aboveZero, blurredOrKept}
 use Rattle.gaussian_blur.proofs.Outcomes.{blurs, keeps}
 
@@ -49,7 +48,7 @@ planes-write w h F =
 
 module _ (mode : EdgeMode) (weights : List Float) (w h : ℕ) (z : Sides w h) (p : List ℕ) where
   -- each plane blurred is the picture blurred
-  planes-blurred : (n : ℕ) → writeAs (ofPlanes 4) w h (λ c. blurredPlane mode weights n w h (readAs (ofPlanes 4) p w h c)) ≡ onPlanes w h (blurred mode weights n w h) p
+  planes-blurred : (n : ℕ) → blurredForm (ofPlanes 4) mode weights n w h p ≡ onPlanes w h (blurred mode weights n w h) p
   unfolding blurred
   planes-blurred n =
       ap (λ (F : ℕ → Plane). writeAs (ofPlanes 4) w h (λ c. blurredPlane mode weights n w h (F c))) (planes-read p w h)
@@ -61,11 +60,10 @@ module _ (mode : EdgeMode) (weights : List Float) (w h : ℕ) (z : Sides w h) (p
       n w h (F c) (G c) (z .w-low) (z .h-low) (λ i j li lj. e c i j lc li lj) x y)
       (blurred mode weights n w h) (λ q. refl) p)
 
-  -- by the strength: with no decimation the planes are convolved, ..
-  pub planes-convolved : (strength : Float) → aboveZero strength ≡ true →
-      formPass (ofPlanes 4) (convolve mode weights) (levelSize w h) (levelSize w h) p ≡ onPlanes w h (blurredOrKept mode weights 0 strength w h) p
-  unfolding formPass blur onPlanes
-  planes-convolved strength on = planes-blurred 0 ∙ ap (planar w h) (blurs mode weights 0 strength w h (interleaved w h p) on)
+  -- by the strength: the planes are blurred, ..
+  pub planes-worked : (n : ℕ) (strength : Float) → aboveZero strength ≡ true → blurredForm (ofPlanes 4) mode weights n w h p ≡ onPlanes w h (blurredOrKept mode weights n strength w h) p
+  unfolding onPlanes
+  planes-worked n strength on = planes-blurred n ∙ ap (planar w h) (blurs mode weights n strength w h (interleaved w h p) on)
 
   -- .. or they stay
   pub planes-kept : (n : ℕ) (strength : Float) → aboveZero strength ≡ false → length p ≡ bytesOf w h → p ≡ onPlanes w h (blurredOrKept mode weights n strength w h) p

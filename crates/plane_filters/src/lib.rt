@@ -19,20 +19,21 @@ ghost use Rattle.plane_filters.specs.Outcome.{blurPlanesOutcome, shadowP
 // Planes of fewer bytes to a row are converted: line by line they cost more, up to 1.35 of a picture's blur at 16 square and 1.07 at 128.
 const WIDE: usize = 256;
 
-// Convolves planes where they lie, and leaves them as they are where the strength is not above zero.
-fn convolve_or_keep(
+// Blurs planes where they lie, and leaves them as they are where the strength is not above zero.
+fn blur_or_keep_planes(
     planes: &mut [u8],
     scratch: &mut [u8],
     size: FullSize,
+    n: u32,
     weights: &[f32],
     mode: EdgeMode,
     strength: f32,
 )
     requires { ⌜ BlurReady (size .w) (size .h) (now planes) (now scratch) (now weights) ⌝ }
-    ensures { λ _. ⌜ now (planes .exit) ≡ onPlanes (size .w) (size .h) (blurredOrKept mode (now (weights .entry)) 0 strength (size .w) (size .h)) (now (planes .entry)) ⌝ }
+    ensures { λ _. ⌜ now (planes .exit) ≡ onPlanes (size .w) (size .h) (blurredOrKept mode (now (weights .entry)) n strength (size .w) (size .h)) (now (planes .entry)) ⌝ }
 {
     if 0.0 < strength {
-        convolve::convolve_form(
+        gaussian_blur::apply_blur(
             planes,
             scratch,
             size.level_zero(),
@@ -40,6 +41,7 @@ fn convolve_or_keep(
                 planes: 4,
                 lanes: 1,
             },
+            n,
             weights,
             mode,
         );
@@ -64,26 +66,7 @@ fn blur_converted(
     planes::split(scratch, planes, size);
 }
 
-// A blur of planes with no decimation, or none: narrow planes as a picture, and others where they lie.
-fn blur_flat(
-    planes: &mut [u8],
-    scratch: &mut [u8],
-    size: FullSize,
-    weights: &[f32],
-    mode: EdgeMode,
-    strength: f32,
-)
-    requires { ⌜ BlurReady (size .w) (size .h) (now planes) (now scratch) (now weights) ⌝ }
-    ensures { λ _. ⌜ now (planes .exit) ≡ onPlanes (size .w) (size .h) (blurredOrKept mode (now (weights .entry)) 0 strength (size .w) (size .h)) (now (planes .entry)) ⌝ }
-{
-    if size.width() < WIDE {
-        blur_converted(planes, scratch, size, 0, weights, mode, strength);
-    } else {
-        convolve_or_keep(planes, scratch, size, weights, mode, strength);
-    }
-}
-
-// Blurs planes or leaves them as they are, by whether there are decimations.
+// Blurs planes or leaves them as they are: narrow ones as a picture, and others where they lie.
 fn apply_blur_planes(
     planes: &mut [u8],
     scratch: &mut [u8],
@@ -96,10 +79,10 @@ fn apply_blur_planes(
     requires { ⌜ BlurReady (size .w) (size .h) (now planes) (now scratch) (now weights) ⌝ }
     ensures { λ _. ⌜ now (planes .exit) ≡ onPlanes (size .w) (size .h) (blurredOrKept mode (now (weights .entry)) n strength (size .w) (size .h)) (now (planes .entry)) ⌝ }
 {
-    if n == 0 {
-        blur_flat(planes, scratch, size, weights, mode, strength);
-    } else {
+    if size.width() < WIDE {
         blur_converted(planes, scratch, size, n, weights, mode, strength);
+    } else {
+        blur_or_keep_planes(planes, scratch, size, n, weights, mode, strength);
     }
 }
 
