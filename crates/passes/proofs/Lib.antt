@@ -5,5 +5,4 @@ pub mod Local
 pub mod OneWide
 pub mod Relates
 pub mod Forms
-pub mod Levels
 pub mod Lines

@@ -6,7 +6,7 @@ ghost use lib.ListN.{length};
 ghost use Rattle.picture.specs.Sizes.{sideRoom, levelBytes, Sized};
 ghost use Rattle.picture.specs.Refusal.{wrongTaps};
 ghost use Rattle.picture.specs.Spans.{Run};
-ghost use Rattle.passes.specs.Levels.{levelPass};
+ghost use Rattle.passes.specs.Forms.{ofPixels, formPass};
 ghost use Rattle.passes.specs.Written.{lineByte, passed};
 ghost use Rattle.blend.specs.Parts.{Room};
 ghost use Rattle.grid_sums.specs.Sums.{wholeConvolve};
@@ -125,7 +125,7 @@ pub fn whole_level(
     mode: EdgeMode,
 )
     requires { ⌜ Sized s ⌝ ∗ ⌜ length (now picture) ≡ levelBytes s ⌝ ∗ ⌜ length (now scratch) ≡ levelBytes s ⌝ ∗ ⌜ Numerators (now numerators) ⌝ }
-    ensures { λ _. ⌜ now (picture .exit) ≡ levelPass (wholeConvolve mode (now (numerators .entry))) s s (now (picture .entry)) ⌝ }
+    ensures { λ _. ⌜ now (picture .exit) ≡ formPass ofPixels (wholeConvolve mode (now (numerators .entry))) s s (now (picture .entry)) ⌝ }
 {
     let w = s.width();
     let h = s.height();

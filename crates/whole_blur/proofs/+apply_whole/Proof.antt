@@ -10,13 +10,11 @@ use borrow.Fn.Kinds.{In}
 use borrow.Fn.PlainCycle.{Measures, is, falls, and}
 use Rattle.picture.specs.Sizes.{levelBytes, Sized}
 use Rattle.picture.specs.declared.LevelSize.{LevelSize}
-use Rattle.passes.specs.Blur.{blur}
-use Rattle.passes.specs.Levels.{levelPass}
 use Rattle.passes.specs.Forms.{ofPixels, formBytes}
 use Rattle.passes.proofs.Forms.{pixels-formed, pixel-bytes}
 use Rattle.grid_sums.specs.Sums.{wholeConvolve}
 use Rattle.grid_sums.proofs.Local.{whole-local}
-use Rattle.gaussian_blur.proofs.Step.{pixels-blurred, step, part-sized, part-fits, part-back}
+use Rattle.gaussian_blur.proofs.Step.{pixels-blurred, blurred-none, step, part-sized, part-fits, part-back}
 use Rattle.whole_blur.specs.Blurred.{wholeBlurred}
 use Rattle.whole_blur.proofs.apply_whole.Reads as apply-whole
 use Rattle.whole_blur.proofs.apply_whole.Kinds as kinds
@@ -124,8 +122,17 @@ module _ (t : ℕ) where
       )
 
   none-left : lts.Need-returns (callees t) (given t) apply-whole.Post
-  unfolding wholeBlurred levelPass blur
-  none-left c = let v = c .before .before .before .before in v .whole-level .ensures ∙ rw (v .before .before .before .if1 .taken)
+  unfolding wholeBlurred
+  none-left c =
+      let v = c .before .before .before .before in
+      let st = v .before .before .before .before .before .before .before in
+      let a = st .args in
+      let C = wholeConvolve (a .mode) (a .numerators .now) in
+      let lc = whole-local (a .mode) (a .numerators .now) in
+      let z = st .pre .1 .pictured .sized in
+      v .whole-level .ensures
+      ∙ blurred-none ofPixels C lc (a .mode) (a .s) z (a .picture .now) (a .n) (v .before .before .before .if1 .taken)
+      ∙ pixels-blurred C lc (a .mode) (a .n) (a .s .w) (a .s .h) z (a .picture .now)
 
   more-left : lts.Need-returns-2 (callees t) (given t) apply-whole.Post
   unfolding wholeBlurred

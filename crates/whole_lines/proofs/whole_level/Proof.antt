@@ -10,7 +10,6 @@ use Rattle.picture.specs.declared.LevelSize.{LevelSize}
 use Rattle.passes.specs.Forms.{ofPixels, formBytes}
 use Rattle.passes.specs.Lines.{Lines}
 use Rattle.passes.proofs.Forms.{pixel-bytes, pixels-formed}
-use Rattle.passes.proofs.Levels.{level-formed}
 use Rattle.passes.proofs.Lines.{lines-fit, rows-are, cols-are, level-is}
 use Rattle.grid_sums.specs.Sums.{wholeConvolve}
 use Rattle.grid_sums.proofs.Local.{whole-local}
@@ -60,10 +59,8 @@ returns c =
     let t = r .before .before .before in
     let s = start r in
     let a = s .args in
-    let C = wholeConvolve (a .mode) (now (a .numerators)) in
-    let local = whole-local (a .mode) (now (a .numerators)) in
-    level-is ofPixels pixels-formed (a .s) (s .pre .0) (t .before .width .ensures) (t .height .ensures) C local (now (a .picture)) (rw (one-mul (t .height .result)) (r .whole-lines .ensures)) (q .whole-lines2 .ensures)
-    ∙ level-formed C local (a .s) (a .s) (s .pre .0) (now (a .picture))
+    level-is ofPixels pixels-formed (a .s) (s .pre .0) (t .before .width .ensures) (t .height .ensures) (wholeConvolve (a .mode) (now (a .numerators))) (whole-local (a .mode) (now (a .numerators))) (now (a .picture))
+    (rw (one-mul (t .height .result)) (r .whole-lines .ensures)) (q .whole-lines2 .ensures)
 
 pub whole-level-spec : {M : Type 1} → statement M
 whole-level-spec =
