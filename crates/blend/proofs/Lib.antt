@@ -1,5 +1,5 @@
 -- Laws of blended bytes and of the outputs that they are, for this crate's proofs.
-pub mod Taps
+pub mod Tapped
 pub mod Pixels
 pub mod Places
 pub mod Outputs

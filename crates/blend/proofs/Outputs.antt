@@ -16,11 +16,6 @@ use Rattle.blend.proofs.Places.{inside}
 
 -- of the samples
 module _ (mode : EdgeMode) (s : ℕ) (line : Line) where
-  pub halves : (x : ℕ) →
-      mix (sample mode s line (2 * x) 1) (sample mode s line (2 * x) 0) (sample mode s line (2 * x + 1) 0) (sample mode s line (2 * x + 2) 0) ≡ halve mode s line x
-  unfolding halve
-  halves x = refl
-
   -- the sample before x for an even output, the one after it for an odd one
   pub doubles : (y : ℕ) →
       let far = sample mode s line (y / 2 + y % 2) (1 - y % 2) in
@@ -44,20 +39,10 @@ module _ (mode : EdgeMode) (s x : ℕ) (line : Line) {a b c d : At} where
   unfolding halve sample
   halved ea eb ec ed = rw (ea, eb, ec, ed)
 
-module _ (mode : EdgeMode) (s x y : ℕ) (line : Line) {a b : At} (near : b ≡ place mode s x 0) where
-  pub doubled-even : y ≡ 2 * x → a ≡ place mode s x 1 → mixAt a b b a line ≡ double mode s line y
-  unfolding double sample
-  doubled-even e far =
-      let even : y % 2 ≡ 0 = omega arith in
-      let at : y / 2 ≡ x = omega arith in
-      rw (far, near, eq-eqb _ _ even, at) (omega arith)
-
-  pub doubled-odd : y ≡ 2 * x + 1 → a ≡ place mode s (x + 1) 0 → mixAt a b b a line ≡ double mode s line y
-  unfolding double sample
-  doubled-odd e far =
-      let odd : y % 2 ≡ 1 = omega arith in
-      let at : y / 2 ≡ x = omega arith in
-      rw (far, near, odd, at) (omega arith)
+module _ (mode : EdgeMode) (s y : ℕ) (line : Line) {a b : At} where
+  pub doubled : a ≡ place mode s (y / 2 + y % 2) (1 - y % 2) → b ≡ place mode s (y / 2) 0 → mixAt a b b a line ≡ double mode s line y
+  unfolding sample
+  doubled far near = rw (far, near) (doubles mode s line y)
 
 -- where the samples lie inside, the line's own elements are blended, whatever the edge rule
 module _ (mode : EdgeMode) (s x : ℕ) (line : Line) where
@@ -69,10 +54,11 @@ module _ (mode : EdgeMode) (s x : ℕ) (line : Line) where
       (inside mode s (2 * x + 1) 0 (2 * x + 1) (omega arith) (omega arith))
       (inside mode s (2 * x + 2) 0 (2 * x + 2) (omega arith) (omega arith))
 
-  pub even-inside : 0 < x → x < s → mix (line (x - 1)) (line x) (line x) (line (x - 1)) ≡ double mode s line (2 * x)
-  even-inside z l =
-      doubled-even mode s x (2 * x) line (inside mode s x 0 x (omega arith) l) refl (inside mode s x 1 (x - 1) (omega arith) (omega arith))
-
+  -- the two outputs between elements x and x + 1
   pub odd-inside : x + 1 < s → mix (line (x + 1)) (line x) (line x) (line (x + 1)) ≡ double mode s line (2 * x + 1)
   odd-inside l =
-      doubled-odd mode s x (2 * x + 1) line (inside mode s x 0 x (omega arith) (omega arith)) refl (inside mode s (x + 1) 0 (x + 1) (omega arith) l)
+      doubled mode s (2 * x + 1) line (inside mode s _ _ (x + 1) (omega arith) l) (inside mode s _ 0 x (omega arith) (omega arith))
+
+  pub even-inside : x + 1 < s → mix (line x) (line (x + 1)) (line (x + 1)) (line x) ≡ double mode s line (2 * x + 2)
+  even-inside l =
+      doubled mode s (2 * x + 2) line (inside mode s _ _ x (omega arith) (omega arith)) (inside mode s _ 0 (x + 1) (omega arith) l)

@@ -4,16 +4,13 @@ use mathlib.Core.List.{List}
 use Prim.Native.Nat.{ℕ, zero, suc, _+_, _*_, _≤_, _<_}
 use native.Mathlib.Omega.{arith}
 use lib.ListN.{length, set, length-set}
-use Rattle.picture.specs.declared.EdgeMode.{EdgeMode}
 use Rattle.picture.specs.declared.Pixel.{Pixel}
 use Rattle.picture.specs.Spans.{Run}
 use Rattle.picture.proofs.Spans.{span-none, span-more}
-use Rattle.edges.specs.Edges.{place, sample}
-use Rattle.edges.specs.declared.At.the-variants.{Inside, Outside}
 use Rattle.passes.specs.Written.{lane}
 use Rattle.blend.specs.Blend.{mix}
 use Rattle.pixels.specs.Pixels.{pixel, pixelFrom, withPixelFrom}
-use Rattle.blend.specs.Pixels.{channelOf, samplePixel, mixPixels}
+use Rattle.blend.specs.Pixels.{channelOf, mixPixels}
 
 -- byte k of four blended pixels is that byte of each, blended
 module _ {p q r s m : Pixel} (a b c d : ℕ → ℕ) (ep : p ≡ pixel a) (eq : q ≡ pixel b) (er : r ≡ pixel c) (es : s ≡ pixel d) (em : m ≡ mixPixels p q r s) where
@@ -38,26 +35,6 @@ module _ (src : List ℕ) (start : ℕ) where
       (k : ℕ) → k < 4 → channelOf m k ≡ mix (lane src start 4 k a) (lane src start 4 k b) (lane src start 4 k c) (lane src start 4 k d)
   pixels-mix a b c d ep eq er es =
       bytes-mix _ _ _ _ (ep ∙ pixel-lanes a) (eq ∙ pixel-lanes b) (er ∙ pixel-lanes c) (es ∙ pixel-lanes d)
-
--- byte k of four blended pixels that coordinates read is that of their samples, blended
-module _ (mode : EdgeMode) (len : ℕ) (src : List ℕ) (start : ℕ) where
-  abbrev byteAt : ℕ → ℕ → ℕ → ℕ
-  byteAt c d k = sample mode len (lane src start 4 k) c d
-
-  pub samples-mix : {p q r s m : Pixel} (cp dp cq dq cr dr cs ds : ℕ) →
-      p ≡ pixel (byteAt cp dp) → q ≡ pixel (byteAt cq dq) → r ≡ pixel (byteAt cr dr) → s ≡ pixel (byteAt cs ds) → m ≡ mixPixels p q r s →
-      (k : ℕ) → k < 4 → channelOf m k ≡ mix (byteAt cp dp k) (byteAt cq dq k) (byteAt cr dr k) (byteAt cs ds k)
-  samples-mix cp dp cq dq cr dr cs ds = bytes-mix (byteAt cp dp) (byteAt cq dq) (byteAt cr dr) (byteAt cs ds)
-
--- the pixel that a coordinate reads is the one at its place
-module _ (mode : EdgeMode) (len : ℕ) (src : List ℕ) (start c d : ℕ) where
-  pub sampled-inside : (i : ℕ) → place mode len c d ≡ Inside i → pixelFrom src (start + i * 4) ≡ samplePixel mode len src start c d
-  unfolding sample
-  sampled-inside i e = rw e (pixel-lanes src start i)
-
-  pub sampled-outside : place mode len c d ≡ Outside → pixel (λ _. 0) ≡ samplePixel mode len src start c d
-  unfolding sample
-  sampled-outside e = rw e
 
 -- a pixel written: its channels, one after another
 pub pixel-run : (d : List ℕ) (o : ℕ) (p : Pixel) → o + 4 ≤ length d →

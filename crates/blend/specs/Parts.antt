@@ -19,6 +19,6 @@ pub record Room (src dst : List ℕ) (start stride len o n : ℕ) : Type 0 where
 abbrev pub PassPart : Pass → List ℕ → List ℕ → List ℕ → ℕ → ℕ → ℕ → ℕ → ℕ → ℕ → Type 0
 PassPart f src old new start stride len o a b = Span 0 old new o (a * stride) (b * stride) (lineByte f src start len stride)
 
--- the same of a row of pixels, whatever the edge rule
-abbrev pub PassPartInside : (EdgeMode → Pass) → List ℕ → List ℕ → List ℕ → ℕ → ℕ → ℕ → ℕ → ℕ → Type 0
-PassPartInside f src old new start len o a b = (mode : EdgeMode) → PassPart (f mode) src old new start 4 len o a b
+-- the same whatever the edge rule
+abbrev pub PassPartInside : (EdgeMode → Pass) → List ℕ → List ℕ → List ℕ → ℕ → ℕ → ℕ → ℕ → ℕ → ℕ → Type 0
+PassPartInside f src old new start stride len o a b = (mode : EdgeMode) → PassPart (f mode) src old new start stride len o a b

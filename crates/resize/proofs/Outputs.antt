@@ -1,43 +1,60 @@
--- A loop over the outputs of a line: what is made so far, before the first, after one more and at the end; and the room for the next.
-use mathlib.Core.Path.{_≡_}
+-- Outputs of a line that are made one part after another, and the room for them.
+use mathlib.Core.Path.{_≡_, refl, _∙_}
 use mathlib.Core.List.{List}
-use Prim.Native.Nat.{ℕ, _+_, _*_, _≤_, _<_}
-use native.Mathlib.Nat.{one-mul}
+use mathlib.Core.Logic.{⊎-elim}
+use Prim.Native.Nat.{ℕ, _+_, _-_, _*_, _≤_, _<_}
+use native.Mathlib.Nat.{zero-mul, one-mul, add-mul}
 use native.Mathlib.Omega.{arith}
 use lib.ListN.{length}
-use Rattle.picture.specs.Spans.{Run}
-use Rattle.picture.proofs.Spans.{scale, within, span-none, span-join}
+use Rattle.picture.specs.Spans.{Span, Run}
+use Rattle.picture.proofs.Spans.{le-or-lt, scale, span-join, span-ends}
 use Rattle.passes.specs.Passes.{Pass}
-use Rattle.passes.specs.Written.{lane}
-use Rattle.passes.proofs.Written.{element-made}
+use Rattle.passes.specs.Written.{lineByte}
+use Rattle.blend.specs.declared.Taps.{Taps}
+use Rattle.blend.specs.Tapped.{tapped, Output}
 use Rattle.blend.specs.Parts.{Room, PassPart}
+use Rattle.blend.proofs.Tapped.{taps-made}
+use Rattle.resize.specs.declared.Resize.{Resize}
+use Rattle.resize.specs.Resize.{innerTo}
+use Rattle.resize.proofs.Sizes.{Outs}
 
--- of the outputs from a up to b, those before y are made
-pub record SoFar (f : Pass) (src old new : List ℕ) (start stride len o a b y : ℕ) : Type 0 where
-  pub low : a ≤ y
-  pub high : y ≤ b
-  pub made : PassPart f src old new start stride len o a y
+-- fewer outputs have room, in a buffer of the same length
+pub room-less : {src dst dst′ : List ℕ} {start stride len o n : ℕ} (m : ℕ) → Room src dst start stride len o n → length dst′ ≡ length dst → m ≤ n → Room src dst′ start stride len o m
+room-less {stride = stride} {o = o} {n} m r e l =
+    record { len-low = r .len-low; len-high = r .len-high; src-ends = r .src-ends; dst-ends = omega (arith, scale o stride m n l, r .dst-ends) }
 
-module _ {f : Pass} {src old : List ℕ} {start stride len o a b : ℕ} where
-  pub none-made : a ≤ b → SoFar f src old old start stride len o a b a
-  none-made l = record { low = omega arith; high = l; made = span-none (omega arith) }
+-- one span of values after another that it may overlap
+pub span-cover : {f : ℕ → ℕ} {d e e′ : List ℕ} {o a b b′ c : ℕ} → a ≤ b′ → b′ ≤ b → b ≤ c → Span 0 d e o a b f → Span 0 e e′ o b′ c f → Span 0 d e′ o a c f
+span-cover {o = o} {b′ = b′} l m n s t =
+    record {
+      size = t .size ∙ s .size;
+      inside = λ k u v. ⊎-elim (λ (w : b′ ≤ k). t .inside k w v) (λ (w : k < b′). t .below (o + k) (omega arith) ∙ s .inside k u (omega arith)) (le-or-lt b′ k);
+      below = λ j u. t .below j (omega arith) ∙ s .below j u;
+      above = λ j u. t .above j u ∙ s .above j (omega arith);
+    }
 
-  module _ {new : List ℕ} {y : ℕ} (s : SoFar f src old new start stride len o a b y) where
-    -- the next output's element lies within the buffer
-    pub next-ends : Room src old start stride len o b → y < b → o + y * stride + stride ≤ length new
-    next-ends r l = omega (arith, within o stride y b l, r .dst-ends, s .made .size)
+-- the last of the outputs ends where they all do
+pub last-starts : (o out stride : ℕ) → 0 < out → o + out * stride - stride ≡ o + (out - 1) * stride
+last-starts o out stride z =
+    let e : out - 1 + 1 ≡ out = omega arith in
+    let all = rw e at (add-mul (out - 1) 1 stride) in
+    omega (arith, all, one-mul stride)
 
-    pub next-room : Room src old start stride len o b → y < b → Room src new start stride len (o + y * stride) 1
-    next-room r l =
-        record { len-low = r .len-low; len-high = r .len-high; src-ends = r .src-ends; dst-ends = omega (arith, next-ends r l, one-mul stride) }
-
-    pub one-more : {next : List ℕ} → y < b → Run 0 new next (o + y * stride) stride (λ k. f len (lane src start stride k) y) → SoFar f src old next start stride len o a b (y + 1)
-    one-more l r =
-        record {
-          low = omega (arith, s .low);
-          high = omega arith;
-          made = span-join (omega (arith, scale 0 stride a y (s .low))) (omega (arith, scale 0 stride y (y + 1) (omega arith))) (s .made) (element-made f src start len stride y r);
-        }
-
-    pub all-made : b ≤ y → PassPart f src old new start stride len o a b
-    all-made l = let e : y ≡ b = omega (arith, s .high) in rw e at (s .made)
+-- a line is made: its first output, those inside, and its last, which may be one of them
+pub line-made : {f : Pass} {kind : Resize} {len out stride : ℕ} {first last : Taps} → Outs kind len out → Output f len stride 0 first → Output f len stride (out - 1) last →
+    (src : List ℕ) (start : ℕ) {d e e′ e″ : List ℕ} {o p : ℕ} → p ≡ o + (out - 1) * stride →
+    Run 0 d e o stride (tapped src start first) → PassPart f src e e′ start stride len o 1 (innerTo kind len) → Run 0 e′ e″ p stride (tapped src start last) →
+    Run 0 d e″ o (out * stride) (lineByte f src start len stride)
+line-made {kind = kind} {len} {out} {stride} b first last src start q one inner end =
+    let to = innerTo kind len in
+    let all : out - 1 + 1 ≡ out = omega (arith, b .some) in
+    let begun = span-join (omega (arith, scale 0 stride 0 1 (omega arith))) (omega (arith, scale 0 stride 1 to (b .inner-low))) (taps-made first src start (omega (arith, zero-mul stride)) one) inner in
+    span-ends
+    (span-cover
+    (omega (arith, scale 0 stride 0 (out - 1) (omega arith)))
+    (omega (arith, scale 0 stride (out - 1) to (omega (arith, b .inner-reaches))))
+    (omega (arith, scale 0 stride to out (b .inner-high)))
+    begun
+    (rw all at (taps-made last src start q end)))
+    (zero-mul stride)
+    refl

@@ -1,6 +1,6 @@
 -- Halving and doubling by cases: the pass, how many elements it makes, and which of them have all samples inside.
 use mathlib.Core.Path.{_≡_}
-use Prim.Native.Nat.{ℕ, _-_, _*_, _/_}
+use Prim.Native.Nat.{ℕ, _+_, _-_, _*_, _/_}
 use Rattle.picture.specs.Sizes.{half}
 use Rattle.picture.specs.declared.EdgeMode.{EdgeMode}
 use Rattle.passes.specs.Passes.{Pass, halve, double}
@@ -17,12 +17,7 @@ abbrev pub Makes : Resize → ℕ → ℕ → Type 0
 Makes Halve len out = out ≡ half len
 Makes Double len out = len ≡ half out
 
--- the first output of a row whose samples all lie inside
-abbrev pub innerFrom : Resize → ℕ
-innerFrom Halve = 1
-innerFrom Double = 2
-
--- the end of the outputs of a row of len pixels whose samples all lie inside
+-- the end of the outputs of a line of len elements, from the second on, whose samples all lie inside
 abbrev pub innerTo : Resize → ℕ → ℕ
-innerTo Halve len = (len - 1) / 2
-innerTo Double len = 2 * len - 2
+innerTo Halve len = 1 + (len - 3) / 2
+innerTo Double len = 2 * len - 1

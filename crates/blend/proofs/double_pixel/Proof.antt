@@ -1,14 +1,15 @@
--- The three pixels read are doubling's samples.
+-- The two pixels read are doubling's samples.
 use mathlib.Core.Path.{_≡_, _∙_}
-use Prim.Native.Nat.{_+_, _-_, _*_}
+use Prim.Native.Nat.{_+_, _*_}
 use native.Mathlib.Omega.{arith}
 use denote.Ref.{now}
+use Rattle.picture.proofs.Sizes.{room-is}
 use Rattle.picture.proofs.Spans.{span-same, span-join}
 use Rattle.passes.specs.Passes.{double}
 use Rattle.passes.specs.Written.{lane}
 use Rattle.passes.proofs.Written.{element-made}
 use Rattle.blend.proofs.Pixels.{pixels-mix}
-use Rattle.blend.proofs.Outputs.{even-inside, odd-inside}
+use Rattle.blend.proofs.Outputs.{odd-inside, even-inside}
 use Rattle.blend.proofs.double_pixel.Statement.{statement}
 use Rattle.blend.proofs.double_pixel.Tie as tie
 
@@ -26,41 +27,40 @@ returns c =
     let m2 = w2 .before in
     let w1 = m2 .before .before .before .before in
     let m1 = w1 .before in
-    let r3 = m1 .before .before in
-    let r2 = r3 .before in
+    let r2 = m1 .before .before in
     let r1 = r2 .before in
     let st = r1 .before .before .before in
     let a = st .args in
     let x = a .x in
     let src = now (a .src) in
-    let low = r1 .read-pixel .ensures in
-    let near = r2 .read-pixel2 .ensures in
-    let high = r3 .read-pixel3 .ensures in
+    let p = r1 .read-pixel .ensures in
+    let q = r2 .read-pixel2 .ensures in
     let two : 2 * x + 1 + 1 ≡ 2 * x + 2 = omega arith in
+    let three : 2 * x + 2 + 1 ≡ 2 * x + 3 = omega arith in
     λ mode.
-    rw two at
+    rw three at
     (span-join (omega arith) (omega arith)
-    (element-made (double mode) src (a .start) (a .len) 4 (2 * x)
+    (rw two at
+    (element-made (double mode) src (a .start) (a .len) 4 (2 * x + 1)
     (span-same (w1 .write-pixel .ensures)
     (λ k _ l.
-    pixels-mix src (a .start) (x - 1) x x (x - 1) low near near low (m1 .blend-pixels .ensures) k l
-    ∙ even-inside mode (a .len) x (lane src (a .start) 4 k) (st .pre .0) (omega arith))))
-    (element-made (double mode) src (a .start) (a .len) 4 (2 * x + 1)
+    pixels-mix src (a .start) (x + 1) x x (x + 1) q p p q (m1 .blend-pixels .ensures) k l
+    ∙ odd-inside mode (a .len) x (lane src (a .start) 4 k) (st .pre .0)))))
+    (element-made (double mode) src (a .start) (a .len) 4 (2 * x + 2)
     (span-same (w2 .write-pixel2 .ensures)
     (λ k _ l.
-    pixels-mix src (a .start) (x + 1) x x (x + 1) high near near high (m2 .blend-pixels2 .ensures) k l
-    ∙ odd-inside mode (a .len) x (lane src (a .start) 4 k) (omega arith)))))
+    pixels-mix src (a .start) x (x + 1) (x + 1) x p q q p (m2 .blend-pixels2 .ensures) k l
+    ∙ even-inside mode (a .len) x (lane src (a .start) 4 k) (st .pre .0)))))
 
 pub double-pixel-spec : {M : Type 1} → statement M
 double-pixel-spec =
     tie.close
     (tie.spec
-    (λ c. omega arith)
-    (λ c. omega arith)
-    (λ c κs. omega arith)
+    (λ c. omega (arith, room-is))
     (λ c κs. omega arith)
     (λ c. omega arith)
     (λ c κs. omega arith)
+    (λ c. omega arith)
     (λ c κs. tt)
     (λ c κs. omega arith)
     (λ c. omega arith)

@@ -9,16 +9,10 @@ halve-inner-requires c κs = rw (c .before .enum-told .given .1) at (c .before .
 double-inner-requires : tie.Need-double-inner-requires
 double-inner-requires c κs = rw (c .before .enum-told2 .given .1) at (c .before .before .before .before .before .pre)
 
-same-length : tie.Need-same-length
-same-length c = c .before .before .halve-inner .kept .1 .1 .1 .0
-
 returns : tie.Need-returns
 returns c =
     let e = c .before .before in
     simp (e .before .before .enum-told .given .1) (e .halve-inner .ensures)
-
-same-length-2 : tie.Need-same-length-2
-same-length-2 c = c .before .before .double-inner .kept .1 .1 .1 .0
 
 returns-2 : tie.Need-returns-2
 returns-2 c =
@@ -33,7 +27,7 @@ resize-inner-spec =
     halve-inner-requires
     (λ c. search needs)
     double-inner-requires
-    same-length
+    (λ c. search needs)
     returns
-    same-length-2
+    (λ c. search needs)
     returns-2)
