@@ -7,7 +7,7 @@ use borrow.Fn.Kinds.{Dens}
 use denote.Ref.{now}
 use Rattle.picture.specs.Answer.{Answer, answered}
 use Rattle.shares.specs.Outcome.{shareOutcome}
-use Rattle.shares.specs.Listing.{PointsLeft, pointsLeft, listOutcome}
+use Rattle.share_lists.specs.Listing.{PointsLeft, pointsLeft, listOutcome}
 use Rattle.face_laws.proofs.Determined.{Determined}
 use Rattle.face_laws.proofs.Runs.{SameRuns, same-runs, CanBeMet}
 use Rattle.face_sums.proofs.explains.corbelrush_share.Reads as share

@@ -1,10 +1,10 @@
 // Which points made a pixel, for C. The list of points is an array of pairs of 64-bit words.
-use shares::listing::Listed;
+use share_lists::listing::Listed;
 use shares::single::Shared;
 ghost use mathlib.Core.Path.{_≡_};
 ghost use Rattle.picture.specs.Answer.{answered};
 ghost use Rattle.shares.specs.Outcome.{shareOutcome};
-ghost use Rattle.shares.specs.Listing.{pointsLeft, listOutcome};
+ghost use Rattle.share_lists.specs.Listing.{pointsLeft, listOutcome};
 
 // The share of an input place in an output place, as `share` answers it: it goes through the pointer.
 #[no_mangle]
@@ -45,7 +45,7 @@ pub extern "C" fn corbelrush_shares(
     ensures { λ r. ⌜ answered r (pointsLeft (now (list .exit)) (now (points .exit))) ≡ listOutcome w h (now (numerators .entry)) n edge «out_place» (now (list .entry)) ⌝ }
 {
     *points = 0;
-    match shares::listing::list(w, h, numerators, n, edge, out_place, list) {
+    match share_lists::listing::list(w, h, numerators, n, edge, out_place, list) {
         Listed::Refused(r) => r.number(),
         Listed::Full => picture::LIST_FULL,
         Listed::Count(k) => {

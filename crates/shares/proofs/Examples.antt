@@ -1,4 +1,4 @@
--- Calls of `share` and `list` worked out, from the definitions.
+-- Calls of `share` worked out, from the definitions.
 use mathlib.Core.Path.{_≡_, refl}
 use mathlib.Core.List.{List, [], _∷_}
 use Prim.Native.Nat.{ℕ}
@@ -13,18 +13,9 @@ use Rattle.passes.specs.Blur.{blur}
 use Rattle.grid_sums.specs.Sums.{gridSum, heavy}
 use Rattle.exact_blur.specs.Exact.{exactHalve, exactDouble}
 use Rattle.share_laws.specs.Share.{share}
-use Rattle.mending.specs.Changes.{laidEntries}
-use Rattle.points.specs.Points.{pointsBelow}
-use Rattle.shares.specs.Checks.{maxShareDepth, tooDeepToShare, placeOutside}
+use Rattle.share_checks.specs.Checks.{maxShareDepth, tooDeepToShare, placeOutside}
+use Rattle.share_checks.proofs.Numerators.{quarters, whole}
 use Rattle.shares.specs.Outcome.{shareOutcome}
-use Rattle.shares.specs.Listing.{pointsLeft, listOutcome}
-
--- a quarter, a half, a quarter; and one tap that is all
-abbrev quarters : List ℕ
-quarters = 16384 ∷ 32768 ∷ 16384 ∷ []
-
-abbrev whole : List ℕ
-whole = 65536 ∷ []
 
 -- 3 by 1, output 0, input 2: a quarter under Wrap, and nothing under None; output 1, input 0 of taps of which the first alone weighs; 1 by 1 at n = 3
 pub share-calls :
@@ -39,14 +30,3 @@ pub share-refusals :
     ≡ (answered 1 0 ∷ answered 4 0 ∷ answered 9 0 ∷ answered 21 0 ∷ answered 22 0 ∷ answered 22 0 ∷ answered 14 0 ∷ [])
 unfolding shareOutcome settled firstOf firstElse wrongSides zeroOrAbove maxSide wrongTaps maxTaps wrongEdge tooDeepToShare maxShareDepth placeOutside heavy sum
 share-refusals = refl
-
--- an entry that no rule writes
-abbrev other : List ℕ
-other = 6 ∷ 7 ∷ []
-
--- 3 by 1 under None, output 0, with room for three, and for one; 2 by 2, output 2, with room for just its point; numerators of 0, with no room
-pub list-calls :
-    (listOutcome 3 1 quarters 0 3 0 (other ∷ other ∷ other ∷ []) ∷ listOutcome 3 1 quarters 0 3 0 (other ∷ []) ∷ listOutcome 2 2 whole 0 0 2 (other ∷ []) ∷ listOutcome 1 1 (0 ∷ []) 0 0 0 [] ∷ [])
-    ≡ (answered 0 (pointsLeft ((0 ∷ 1073741824 ∷ []) ∷ (1 ∷ 536870912 ∷ []) ∷ other ∷ []) 2) ∷ answered 17 (pointsLeft (other ∷ []) 0) ∷ answered 0 (pointsLeft ((2 ∷ 4294967296 ∷ []) ∷ []) 1) ∷ answered 0 (pointsLeft [] 0) ∷ [])
-unfolding listOutcome settled firstOf firstElse wrongSides zeroOrAbove maxSide wrongTaps maxTaps wrongEdge tooDeepToShare maxShareDepth placeOutside heavy sum modeOf share blur gridSum sumTo sample place pointsBelow laidEntries
-list-calls = refl

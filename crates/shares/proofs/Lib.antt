@@ -1,5 +1,3 @@
--- Laws of shares and of their listing.
+-- Laws of the share of one input.
 pub mod Examples
-pub mod Accepted
-pub mod Products
 pub mod Determined

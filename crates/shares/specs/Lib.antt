@@ -1,5 +1,2 @@
--- The definitions that contracts cite of shares and of their listing.
-pub mod Checks
+-- The definitions that contracts cite of the share of one input.
 pub mod Outcome
-pub mod Listing
-pub mod Needs

@@ -6,7 +6,7 @@ use Rattle.picture.specs.Modes.{modeOf}
 use Rattle.picture.specs.Refusal.{firstOf}
 use Rattle.picture.specs.Answer.{Answer, answered, settled}
 use Rattle.share_laws.specs.Share.{shareAt}
-use Rattle.shares.specs.Checks.{placeOutside, shareChecks, shareNumber}
+use Rattle.share_checks.specs.Checks.{placeOutside, shareChecks, shareNumber}
 use Rattle.shares.specs.declared.single.Shared.{Shared}
 use Rattle.shares.specs.declared.single.Shared.the-variants.{Refused, Share}
 

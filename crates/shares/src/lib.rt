@@ -1,7 +1,2 @@
-// Which points made a pixel: the share of one input in an output, and the list of all inputs that have one.
-mod axes;
-mod checks;
-pub mod listing;
+// Which points made a pixel: the share of one input in an output.
 pub mod single;
-
-pub use checks::ShareRefusal;

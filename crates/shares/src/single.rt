@@ -1,18 +1,18 @@
 // The share of one input in an output.
-use crate::axes::fill_axis;
-use crate::checks::Checked;
-use crate::checks::ShareRefusal;
-use crate::checks::check_share;
-use crate::checks::place_outside;
 use backwards::LevelSide;
 use picture::EdgeMode;
 use picture::FullSize;
+use share_checks::axes::fill_axis;
+use share_checks::checks::Checked;
+use share_checks::checks::ShareRefusal;
+use share_checks::checks::check_share;
+use share_checks::checks::place_outside;
 ghost use mathlib.Core.Path.{_≡_};
 ghost use mathlib.Core.Bool.{_||_};
 ghost use Prim.Native.Nat.{_*_, _<_};
 ghost use Rattle.share_laws.specs.Share.{shareAt, axisShare};
-ghost use Rattle.shares.specs.Checks.{placeOutside};
-ghost use Rattle.shares.specs.Needs.{AxisAsked, RowReady, ShareAsked};
+ghost use Rattle.share_checks.specs.Checks.{placeOutside};
+ghost use Rattle.share_checks.specs.Needs.{AxisAsked, RowReady, ShareAsked};
 ghost use Rattle.shares.specs.Outcome.{shareAnswer, shareOutcome};
 
 // What the entry answers: the share, over 2^(10n+32).

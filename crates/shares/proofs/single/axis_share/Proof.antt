@@ -1,7 +1,7 @@
 -- Rows of zeros, as long as the longest side.
 use mathlib.Core.Path.{refl}
 use Rattle.picture.specs.Sizes.{maxSide}
-use Rattle.shares.proofs.Accepted.{zero-row}
+use Rattle.share_checks.proofs.Accepted.{zero-row}
 use Rattle.shares.proofs.single.axis_share.Statement.{statement}
 use Rattle.shares.proofs.single.axis_share.Tie as tie
 

@@ -8,9 +8,9 @@ use Rattle.picture.specs.Refusal.{firstOf}
 use Rattle.picture.proofs.Tests.{neither}
 use Rattle.picture.proofs.Answers.{done}
 use Rattle.share_laws.specs.Share.{shareAt}
-use Rattle.shares.specs.Checks.{placeOutside, checkedNumber, shareChecks}
+use Rattle.share_checks.specs.Checks.{placeOutside, checkedNumber, shareChecks}
 use Rattle.shares.specs.Outcome.{shareOutcome}
-use Rattle.shares.proofs.Accepted.{inside, right, not-outside, asked, refused-as}
+use Rattle.share_checks.proofs.Accepted.{inside, right, not-outside, asked, refused-as}
 use Rattle.shares.proofs.single.share.Statement.{statement}
 use Rattle.shares.proofs.single.share.Tie as tie
 

@@ -7,7 +7,7 @@ use borrow.Author.Needs.{needs}
 use Rattle.picture.proofs.Quarter.{area}
 use Rattle.share_laws.specs.Share.{axisShare}
 use Rattle.share_laws.proofs.Separate.{separate}
-use Rattle.shares.proofs.Accepted.{across-asked, down-asked}
+use Rattle.share_checks.proofs.Accepted.{across-asked, down-asked}
 use Rattle.shares.proofs.single.share_of.Statement.{statement}
 use Rattle.shares.proofs.single.share_of.Tie as tie
 
