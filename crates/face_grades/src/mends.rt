@@ -2,7 +2,8 @@
 use mending::mender::Mended;
 ghost use mathlib.Core.Path.{_≡_};
 ghost use Rattle.picture.specs.Answer.{answered};
-ghost use Rattle.mending.specs.Outcome.{mendLeft, mendOutcome, rebuildOutcome};
+ghost use Rattle.rebuilding.specs.Outcome.{rebuildOutcome};
+ghost use Rattle.mending.specs.Outcome.{mendLeft, mendOutcome};
 
 // Mends a picture of w by h pixels, as `mend` does: the count goes through the pointer.
 #[no_mangle]
@@ -30,5 +31,5 @@ pub extern "C" fn corbelrush_mend(
 pub extern "C" fn corbelrush_rebuild(picture: &mut [u8], w: u32, h: u32, list: &[[u32; 2]]) -> u32
     ensures { λ r. ⌜ answered r (now (picture .exit)) ≡ rebuildOutcome (now (picture .entry)) w h (now (list .entry)) ⌝ }
 {
-    mending::rebuilder::rebuild(picture, w, h, list)
+    rebuilding::rebuilder::rebuild(picture, w, h, list)
 }

@@ -8,7 +8,8 @@ use denote.Ref.{now}
 use Rattle.picture.specs.Answer.{Answer, answered}
 use Rattle.face_laws.proofs.Determined.{Determined}
 use Rattle.face_laws.proofs.Runs.{CanBeMet, SameRuns, same-runs}
-use Rattle.mending.specs.Outcome.{MendLeft, mendLeft, mendOutcome, rebuildOutcome}
+use Rattle.rebuilding.specs.Outcome.{rebuildOutcome}
+use Rattle.mending.specs.Outcome.{MendLeft, mendLeft, mendOutcome}
 use Rattle.face_grades.proofs.mends.corbelrush_mend.Reads as mend
 use Rattle.face_grades.proofs.mends.corbelrush_mend.Kinds as mend-kinds
 use Rattle.face_grades.proofs.mends.corbelrush_rebuild.Reads as rebuild

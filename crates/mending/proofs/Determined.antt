@@ -15,8 +15,6 @@ use Rattle.mending.specs.declared.mender.Mended.the-variants.{Refused, C
 use Rattle.mending.specs.declared.mender.MendRefusal.the-variants.{WrongSides, WrongLength, ListFull}
 use Rattle.mending.proofs.mender.mend.Reads as mend
 use Rattle.mending.proofs.mender.mend.Kinds as mend-kinds
-use Rattle.mending.proofs.rebuilder.rebuild.Reads as rebuild
-use Rattle.mending.proofs.rebuilder.rebuild.Kinds as rebuild-kinds
 
 -- an answer can be read back from its number and count
 abbrev mend-back : Answer MendLeft → Mended
@@ -47,8 +45,3 @@ mend-once r₁ r₂ p₁ p₂ l₁ l₂ e =
 pub mend-determined : (κs : Lfts 2) (a : Dens κs mend-kinds.ps) (r₁ r₂ : Mended) (x₁ x₂ : AtExit (endedOf 2 mend-kinds.ps mend-kinds.r) κs) →
     mend.Post κs a r₁ x₁ → mend.Post κs a r₂ x₂ → (r₁ ≡ r₂) × (now (x₁ .0) ≡ now (x₂ .0)) × (now (x₁ .1 .1 .1 .0) ≡ now (x₂ .1 .1 .1 .0))
 mend-determined κs a r₁ r₂ x₁ x₂ h₁ h₂ = mend-once r₁ r₂ _ _ _ _ (h₁ ∙ sym h₂)
-
-pub rebuild-determined : (κs : Lfts 2) (a : Dens κs rebuild-kinds.ps) (r₁ r₂ : ℕ) (x₁ x₂ : AtExit (endedOf 2 rebuild-kinds.ps rebuild-kinds.r) κs) →
-    rebuild.Post κs a r₁ x₁ → rebuild.Post κs a r₂ x₂ → (r₁ ≡ r₂) × (now (x₁ .0) ≡ now (x₂ .0))
-rebuild-determined κs a r₁ r₂ x₁ x₂ h₁ h₂ =
-    (ap (λ (o : Answer (List ℕ)). o .number) (h₁ ∙ sym h₂), ap (λ (o : Answer (List ℕ)). o .left) (h₁ ∙ sym h₂))

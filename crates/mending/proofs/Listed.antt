@@ -11,8 +11,9 @@ use Rattle.picture.specs.declared.Pixel.{Pixel}
 use Rattle.pixels.specs.Pixels.{pixelAt, withPixel}
 use Rattle.pixels.specs.Channels.{exceeds, exceedsAt}
 use Rattle.pixels.proofs.Painting.{Painting, next, turn}
-use Rattle.mending.specs.Changes.{lowered, howMany, change, changesBelow, laidEntries}
-use Rattle.mending.proofs.Counted.{many-more, many-split}
+use Rattle.counting.specs.Counts.{howMany}
+use Rattle.mending.specs.Changes.{lowered, change, changesBelow, laidEntries}
+use Rattle.counting.proofs.Counted.{many-more, many-split}
 use Rattle.mending.proofs.Lowered.{loweredAt, lowered-is}
 
 -- there are as many entries as pixels that fail

@@ -12,9 +12,10 @@ use Rattle.pixels.specs.Channels.{exceeds, exceedsAt}
 use Rattle.pixels.proofs.Painting.{Painting, begins, turn}
 use Rattle.grading.specs.Premultiplied.{none, scanned}
 use Rattle.grading.proofs.Scanned.{finds-none}
-use Rattle.mending.specs.Changes.{lowered, mended, howMany, changesBelow, laidEntries}
+use Rattle.counting.specs.Counts.{howMany}
+use Rattle.mending.specs.Changes.{lowered, mended, changesBelow, laidEntries}
 use Rattle.mending.specs.Outcome.{mendLeft, failing, mendDone}
-use Rattle.mending.proofs.Counted.{many-none, none-many}
+use Rattle.counting.proofs.Counted.{many-none, none-many}
 use Rattle.mending.proofs.Lowered.{kept, passes, same-pixel, loweredAt, lowered-is, mended-is, mended-pixel}
 use Rattle.mending.proofs.Listed.{as-many}
 

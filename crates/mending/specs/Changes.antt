@@ -1,7 +1,7 @@
 -- What mending makes of a picture, and the list of what it changes.
-use mathlib.Core.Bool.{Bool, cond}
+use mathlib.Core.Bool.{cond}
 use mathlib.Core.List.{List, [], _∷_, _++_}
-use Prim.Native.Nat.{ℕ, zero, suc, _+_, min}
+use Prim.Native.Nat.{ℕ, zero, suc, min}
 use lib.ListN.{length, drop}
 use Rattle.picture.specs.Planes.{chan, painted}
 use Rattle.picture.specs.declared.Pixel.{Pixel}
@@ -15,11 +15,6 @@ mended w h bytes = painted w h (λ c x y. min (chan bytes w c x y) (chan bytes w
 -- the same of one pixel
 abbrev pub lowered : Pixel → Pixel
 lowered p = record { r = min (p .r) (p .a); g = min (p .g) (p .a); b = min (p .b) (p .a); a = p .a }
-
--- how many of the places below n a test holds at
-unfoldable pub howMany : (ℕ → Bool) → ℕ → ℕ
-howMany test zero = 0
-howMany test (suc n) = howMany test n + cond (test n) 1 0
 
 -- an entry of the list: the place, and the old pixel in one number
 abbrev pub change : ℕ → Pixel → List ℕ

@@ -1,4 +1,3 @@
--- The definitions that contracts cite of mending a picture, and of rebuilding it.
+-- The definitions that contracts cite of mending a picture.
 pub mod Changes
-pub mod Restored
 pub mod Outcome

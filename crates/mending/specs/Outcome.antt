@@ -1,5 +1,4 @@
--- What the entries `mend` and `rebuild` answer and leave behind, for any input.
-use mathlib.Core.Bool.{Bool, not}
+-- What the entry `mend` answers and leaves behind, for any input.
 use mathlib.Core.List.{List, [], _∷_, _++_}
 use Prim.Native.Nat.{ℕ, _*_}
 use lib.Dec.{ltb}
@@ -7,8 +6,8 @@ use lib.ListN.{length}
 use Rattle.picture.specs.Refusal.{Check, check, firstOf, pictureChecks}
 use Rattle.picture.specs.Answer.{Answer, answered, settled}
 use Rattle.pixels.specs.Channels.{exceedsAt}
-use Rattle.mending.specs.Changes.{mended, howMany, changesBelow, laidEntries}
-use Rattle.mending.specs.Restored.{rising, restored}
+use Rattle.counting.specs.Counts.{howMany}
+use Rattle.mending.specs.Changes.{mended, changesBelow, laidEntries}
 use Rattle.mending.specs.declared.mender.MendRefusal.{MendRefusal}
 use Rattle.mending.specs.declared.mender.MendRefusal.the-variants.{WrongSides, WrongLength, ListFull}
 use Rattle.mending.specs.declared.mender.Mended.{Mended}
@@ -53,15 +52,3 @@ mendDone p w h list = mendLeft (mended w h p) (laidEntries (changesBelow p (w * 
 -- the first refusal; or mended
 unfoldable pub mendOutcome : List ℕ → ℕ → ℕ → List (List ℕ) → Answer MendLeft
 mendOutcome p w h list = settled (firstOf (mendChecks p w h (length list))) (mendLeft p list 0) (mendDone p w h list)
-
--- 18: a place lies outside the picture, or is not above the one before it
-unfoldable pub wrongList : List (List ℕ) → ℕ → Bool
-wrongList list area = not (rising 0 area list)
-
--- Rebuild: 1, 2, 18; of the picture's length
-abbrev pub rebuildChecks : ℕ → ℕ → ℕ → List (List ℕ) → List Check
-rebuildChecks len w h list = pictureChecks len w h ++ check 18 (wrongList list (w * h)) ∷ []
-
--- the first refusal; or the picture with each old pixel back in its place
-unfoldable pub rebuildOutcome : List ℕ → ℕ → ℕ → List (List ℕ) → Answer (List ℕ)
-rebuildOutcome p w h list = settled (firstOf (rebuildChecks (length p) w h list)) p (restored list p)

@@ -1,5 +1,2 @@
-// Mending a picture, with a list of what was changed, and rebuilding the old picture from the two.
-pub mod counter;
+// Mending a picture, with a list of what was changed.
 pub mod mender;
-pub mod rebuilder;
-mod words;

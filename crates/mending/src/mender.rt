@@ -1,5 +1,5 @@
 // The mender: each channel above its alpha is lowered to it, and each pixel changed is listed.
-use crate::counter::count_exceeding;
+use counting::counter::count_exceeding;
 use picture::FullSize;
 use picture::Pixel;
 use pixels::exceeds;
@@ -14,7 +14,8 @@ ghost use Rattle.picture.specs.Refusal.{firstOf};
 ghost use Rattle.picture.specs.Sizes.{Pictured};
 ghost use Rattle.pixels.specs.Pixels.{pixelAt, withPixel};
 ghost use Rattle.pixels.specs.Channels.{exceedsAt};
-ghost use Rattle.mending.specs.Changes.{mended, lowered, howMany, change, changesBelow, laidEntries};
+ghost use Rattle.counting.specs.Counts.{howMany};
+ghost use Rattle.mending.specs.Changes.{mended, lowered, change, changesBelow, laidEntries};
 ghost use Rattle.mending.specs.Outcome.{mendLeft, mendNumber, mendAnswer, roomChecks, mendDone, mendOutcome};
 
 // The refusals that the mender gives.

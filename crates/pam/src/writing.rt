@@ -1,8 +1,8 @@
 // A picture written as a PAM file.
+use counting::counter::count_exceeding;
 use grading::premultiplied::Checked;
 use grading::premultiplied::PictureRefusal;
 use grading::premultiplied::Place;
-use mending::counter::count_exceeding;
 use pam_convert::outward::write_body;
 ghost use mathlib.Core.Path.{_≡_};
 ghost use mathlib.Core.Bool.{true};

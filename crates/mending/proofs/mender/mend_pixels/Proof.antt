@@ -7,7 +7,8 @@ use lib.ListN.{length}
 use Rattle.picture.proofs.Sizes.{area}
 use Rattle.pixels.specs.Channels.{exceedsAt}
 use Rattle.pixels.proofs.Painting.{begins}
-use Rattle.mending.specs.Changes.{howMany, changesBelow, laidEntries}
+use Rattle.counting.specs.Counts.{howMany}
+use Rattle.mending.specs.Changes.{changesBelow, laidEntries}
 use Rattle.mending.proofs.Lowered.{mended-is}
 use Rattle.mending.proofs.Listed.{Turn, turn-room, turn-more}
 use Rattle.mending.proofs.mender.mend_pixels.Statement.{statement}

@@ -13,8 +13,8 @@ use Rattle.picture.proofs.Conditions.{right-length}
 use Rattle.picture.proofs.Sizes.{full-sized}
 use Rattle.pixels.specs.Channels.{exceedsAt}
 use Rattle.grading.proofs.Scanned.{finds-none}
-use Rattle.mending.specs.Changes.{howMany}
-use Rattle.mending.proofs.Counted.{none-many}
+use Rattle.counting.specs.Counts.{howMany}
+use Rattle.counting.proofs.Counted.{none-many}
 use Rattle.pam.proofs.writing.passes.Statement.{statement}
 use Rattle.pam.proofs.writing.passes.Tie as tie
 
