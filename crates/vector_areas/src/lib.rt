@@ -1,7 +1,7 @@
 // The functions that are lent a table of words.
 use face_sums::areas;
-use vector_parts::bounds;
-use vector_parts::buffers;
+use vector_buffers::bounds;
+use vector_buffers::buffers;
 use vector_parts::parts;
 use vector_parts::replies;
 use vector_parts::replies::Reply;

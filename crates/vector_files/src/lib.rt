@@ -2,7 +2,7 @@
 // its planes.
 use face_files::images;
 use face_files::plates;
-use vector_parts::buffers;
+use vector_buffers::buffers;
 use vector_parts::parts;
 use vector_parts::replies;
 use vector_parts::replies::Reply;

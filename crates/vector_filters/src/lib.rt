@@ -1,7 +1,7 @@
 // The functions that are lent work buffers.
 use face_files::plates;
 use face_filters::filters;
-use vector_parts::buffers;
+use vector_buffers::buffers;
 use vector_parts::parts;
 use vector_parts::replies;
 use vector_parts::replies::Reply;

@@ -1,9 +1,9 @@
 // The functions that are lent a picture and a list of pairs: a place and a pixel each.
 use face_grades::mends;
-use vector_parts::bounds;
-use vector_parts::buffers;
-use vector_parts::lists;
-use vector_parts::lists::MOST_PAIRS;
+use vector_buffers::bounds;
+use vector_buffers::buffers;
+use vector_pairs::lists;
+use vector_pairs::lists::MOST_PAIRS;
 use vector_parts::parts;
 use vector_parts::replies;
 use vector_parts::replies::Reply;

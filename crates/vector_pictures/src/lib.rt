@@ -2,7 +2,7 @@
 use face_files::plates;
 use face_filters::filters;
 use face_grades::grades;
-use vector_parts::buffers;
+use vector_buffers::buffers;
 use vector_parts::parts;
 use vector_parts::replies;
 use vector_parts::replies::Reply;

@@ -3,7 +3,7 @@ use mathlib.Core.List.{List, [], _∷_, map}
 use Prim.Native.Nat.{ℕ, _+_, _*_}
 use lib.ListN.{getD}
 use Rattle.picture.specs.Build.{build}
-use Rattle.vector_parts.specs.Buffers.{numbersFrom}
+use Rattle.vector_buffers.specs.Buffers.{numbersFrom}
 
 -- point i of a list of numbers: its numbers 2i and 2i + 1
 abbrev pub pointIn : List ℕ → ℕ → List ℕ

@@ -1,5 +1,5 @@
 // A list of pairs of 64-bit words, filled with the numbers of a vector and compared with them.
-use vector_parts::buffers;
+use vector_buffers::buffers;
 use vector_parts::parts::Part;
 ghost use mathlib.Core.Path.{_≡_};
 ghost use mathlib.Core.List.{map};

@@ -1,7 +1,7 @@
 // The function that is lent a list of recipes: lists of eight, since an array has a length that is known.
 use recipe_checks::Step;
-use vector_parts::bounds;
-use vector_parts::buffers;
+use vector_buffers::bounds;
+use vector_buffers::buffers;
 use vector_parts::parts;
 use vector_parts::replies;
 use vector_parts::replies::Reply;

@@ -1,6 +1,6 @@
 // The function that is lent numerators and a work buffer.
 use face_filters::wholes;
-use vector_parts::buffers;
+use vector_buffers::buffers;
 use vector_parts::parts;
 use vector_parts::replies;
 use vector_parts::replies::Reply;

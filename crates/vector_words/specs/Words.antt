@@ -2,7 +2,7 @@
 use mathlib.Core.List.{List, map}
 use Prim.Native.Nat.{ℕ}
 use Rattle.vector_values.specs.Values.{wordOf}
-use Rattle.vector_parts.specs.Buffers.{numbersFrom}
+use Rattle.vector_buffers.specs.Buffers.{numbersFrom}
 
 -- numbers of a vector from a place on, as 512 words
 abbrev pub wordsFrom : List ℕ → ℕ → ℕ → List ℕ

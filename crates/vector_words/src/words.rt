@@ -1,5 +1,5 @@
 // Words of 32 bits, filled with the numbers of a vector and compared with them.
-use vector_parts::buffers;
+use vector_buffers::buffers;
 use vector_parts::parts::Part;
 use vector_values::values;
 use vector_values::values::LONGEST;

@@ -5,7 +5,7 @@ use Prim.Native.Nat.{ℕ, _^_}
 use lib.Dec.{eqb, leb}
 use lib.ListN.{length}
 use Rattle.vector_parts.specs.Parts.{weightsPart, bytesPart, otherPart}
-use Rattle.vector_parts.specs.Bounds.{rangeUnder, partUnder}
+use Rattle.vector_buffers.specs.Bounds.{rangeUnder, partUnder}
 
 -- numbers 0 to 18 and 22 to 24 have 32 bits; 15 and 16 are lengths of at most 512
 unfoldable pub headFits : List ℕ → Bool

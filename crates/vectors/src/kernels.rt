@@ -1,6 +1,6 @@
 // The functions that are lent weights alone.
 use face_grades::grades;
-use vector_parts::buffers;
+use vector_buffers::buffers;
 use vector_parts::parts;
 use vector_parts::replies;
 use vector_parts::replies::Reply;

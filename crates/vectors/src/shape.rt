@@ -1,6 +1,6 @@
 // Whether some numbers are a vector: none is missing, left over or too large.
-use vector_parts::bounds::part_under;
-use vector_parts::bounds::range_under;
+use vector_buffers::bounds::part_under;
+use vector_buffers::bounds::range_under;
 use vector_parts::parts;
 use vector_parts::parts::HEAD;
 ghost use mathlib.Core.Path.{_≡_};

@@ -7,7 +7,7 @@ use lib.ListN.{length, take, drop, length-set}
 use Rattle.picture.specs.Build.{build}
 use Rattle.picture.proofs.Build.{length-build, getD-build}
 use Rattle.vector_points.specs.Points.{pointIn}
-use Rattle.vector_parts.proofs.Filled.{map-more, map-whole}
+use Rattle.vector_buffers.proofs.Filled.{map-more, map-whole}
 use Rattle.vector_points.proofs.fill_points.Statement.{statement}
 use Rattle.vector_points.proofs.fill_points.Tie as tie
 

@@ -7,7 +7,7 @@ use native.Mathlib.Omega.{arith}
 use borrow.Author.Needs.{needs}
 use borrow.Author.Tests.{eqb-true, eq-eqb}
 use lib.ListN.{getD}
-use Rattle.vector_parts.proofs.Pairs.{pair-same}
+use Rattle.vector_buffers.proofs.Pairs.{pair-same}
 use Rattle.vector_points.proofs.same_point.Statement.{statement}
 use Rattle.vector_points.proofs.same_point.Tie as tie
 

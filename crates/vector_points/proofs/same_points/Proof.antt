@@ -7,7 +7,7 @@ use native.Mathlib.Omega.{arith}
 use borrow.Author.Needs.{needs}
 use borrow.Author.Tests.{not-true, not-false}
 use lib.ListN.{length, getD, take}
-use Rattle.vector_parts.proofs.Pairs.{same-more, same-whole}
+use Rattle.vector_buffers.proofs.Pairs.{same-more, same-whole}
 use Rattle.vector_points.proofs.same_points.Statement.{statement}
 use Rattle.vector_points.proofs.same_points.Tie as tie
 

@@ -6,7 +6,7 @@ use native.Mathlib.Omega.{arith}
 use borrow.Author.Needs.{needs}
 use lib.ListN.{length, take, drop, length-set}
 use Rattle.vector_values.specs.Values.{wordOf}
-use Rattle.vector_parts.proofs.Filled.{map-more, map-whole}
+use Rattle.vector_buffers.proofs.Filled.{map-more, map-whole}
 use Rattle.vector_words.proofs.words.fill_words.Statement.{statement}
 use Rattle.vector_words.proofs.words.fill_words.Tie as tie
 

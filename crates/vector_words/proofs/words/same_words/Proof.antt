@@ -5,7 +5,7 @@ use mathlib.Core.List.{List}
 use Prim.Native.Nat.{ℕ, _-_, _≤_}
 use native.Mathlib.Omega.{arith}
 use lib.ListN.{length, getD, take}
-use Rattle.vector_parts.proofs.Pairs.{same-more, same-whole}
+use Rattle.vector_buffers.proofs.Pairs.{same-more, same-whole}
 use Rattle.vector_words.proofs.words.same_words.Statement.{statement}
 use Rattle.vector_words.proofs.words.same_words.Tie as tie
 

@@ -7,7 +7,7 @@ use borrow.Author.Tests.{eq-eqb, ne-eqb}
 use lib.Dec.{eqb}
 use lib.ListN.{length}
 use Rattle.vector_parts.specs.Parts.{weightsPart, otherPart}
-use Rattle.vector_parts.specs.Bounds.{partUnder}
+use Rattle.vector_buffers.specs.Bounds.{partUnder}
 use Rattle.vectors.specs.Shape.{listsFit}
 use Rattle.vector_parts.proofs.Tested.{passed, refused}
 use Rattle.vectors.proofs.shape.lists_fit.Statement.{statement}

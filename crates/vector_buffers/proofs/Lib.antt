@@ -1,0 +1,3 @@
+-- Laws of buffers that are filled, and of lists that are compared.
+pub mod Filled
+pub mod Pairs

@@ -1,0 +1,2 @@
+-- The definitions that contracts cite of pairs of words.
+pub mod Pairs
