@@ -3,3 +3,5 @@ pub mod Between
 pub mod Units
 pub mod Whole
 pub mod Table
+pub mod Writing
+pub mod Laid

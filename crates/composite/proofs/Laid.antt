@@ -1,0 +1,44 @@
+-- A plane of alphas: its bytes in the order of the pixels, the shadow's alphas of them, and the colour's channels as the tint's.
+use mathlib.Core.Path.{_≡_, refl, ap, _∙_}
+use mathlib.Core.Bool.{Bool}
+use mathlib.Core.List.{List}
+use Prim.Native.Nat.{ℕ, zero, suc, _+_, _*_, _/_, _%_, _<_}
+use native.Mathlib.Nat.{div-add-mod', mul-comm}
+use native.Mathlib.Omega.{arith}
+use lib.Ieee.{Float}
+use lib.ListN.{length, getD}
+use Rattle.picture.specs.Build.{build}
+use Rattle.picture.specs.Planes.{Plane}
+use Rattle.picture.proofs.Build.{getD-build, build-same}
+use Rattle.picture.proofs.Planes.{pixel-fits}
+use Rattle.composite.specs.Channels.{shadowAlpha}
+use Rattle.composite.specs.Shadow.{tinted}
+use Rattle.composite.specs.Plane.{planeIn, through, shadowAlphas, tintOf, tintedBy, tintOn, shadowOn}
+use Rattle.composite.specs.declared.Colour.{Colour}
+
+pub plane-here : (bytes : List ℕ) (w i : ℕ) → planeIn bytes w (i % w) (i / w) ≡ getD bytes i 0
+unfolding planeIn
+plane-here bytes w i = ap (λ (k : ℕ). getD bytes k 0) (div-add-mod' i w)
+
+-- a plane through the table of the shadow's alphas
+pub through-alphas : (alpha : Float) (plane table : List ℕ) → ((i : ℕ) → getD plane i 0 < 256) → table ≡ build 256 (shadowAlpha alpha) → through table plane ≡ shadowAlphas alpha plane
+unfolding through shadowAlphas
+through-alphas alpha plane table byte e = rw e (build-same (length plane) _ _ (λ i l. getD-build 256 (shadowAlpha alpha) (getD plane i 0) (byte i)))
+
+-- the shadow's alphas as a plane
+pub alphas-at : (alpha : Float) (plane : List ℕ) (w h x y : ℕ) → length plane ≡ w * h → x < w → y < h → planeIn (shadowAlphas alpha plane) w x y ≡ shadowAlpha alpha (planeIn plane w x y)
+unfolding planeIn shadowAlphas
+alphas-at alpha plane w h x y e lx ly = getD-build (length plane) _ (y * w + x) (omega (arith, pixel-fits w h x y lx ly, mul-comm w h))
+
+-- so a shadow of those alphas is the shadow that the plane casts
+pub laid-shadow : (composite : Bool) (colour : Colour) (F : ℕ → Plane) (plane : List ℕ) (w h : ℕ) → length plane ≡ w * h → (c x y : ℕ) → x < w → y < h →
+    tintOn composite (tintOf colour) F (planeIn (shadowAlphas (colour .alpha) plane) w) c x y ≡ shadowOn composite colour F (planeIn plane w) c x y
+unfolding tintOn
+laid-shadow composite colour F plane w h e c x y lx ly = rw (alphas-at (colour .alpha) plane w h x y e lx ly)
+
+pub tinted-is : (colour : Colour) (alpha c : ℕ) → tintedBy (tintOf colour) alpha c ≡ tinted colour alpha c
+unfolding tintedBy tinted
+tinted-is colour alpha zero = refl
+tinted-is colour alpha (suc zero) = refl
+tinted-is colour alpha (suc (suc zero)) = refl
+tinted-is colour alpha (suc (suc (suc c))) = refl
