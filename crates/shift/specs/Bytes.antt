@@ -4,9 +4,11 @@ use mathlib.Core.Bool.{Bool, cond}
 use mathlib.Core.List.{List}
 use Prim.Native.Nat.{ℕ, _+_, _-_, _*_, _/_, _%_, min}
 use lib.Dec.{ltb, leb}
+use lib.Ieee.{Float}
 use lib.ListN.{length}
 use Rattle.picture.specs.Build.{build}
 use Rattle.picture.specs.Buffers.{lineOf, lineFrom, placed}
+use Rattle.binary32.specs.Round.{roundOffset}
 use Rattle.binary32.specs.declared.Offset.{Offset}
 use Rattle.shift.specs.declared.ByteOffset.{ByteOffset}
 use Rattle.shift.specs.Shift.{moved, shifted}
@@ -54,3 +56,11 @@ OneWay d = min (d .plus) (d .minus) ≡ 0
 -- no element of a line of s lies inside once it is moved by d
 abbrev pub movedOut : ℕ → Offset → Bool
 movedOut s d = leb s (d .plus + d .minus)
+
+-- an offset in elements of so many bytes, counted in bytes
+abbrev pub inBytes : ℕ → Offset → Offset
+inBytes lanes d = record { plus = lanes * d .plus; minus = lanes * d .minus }
+
+-- h rows of w elements of so many bytes, moved by the offsets rounded to whole elements and held to the sides
+abbrev pub elementsShifted : ℕ → Float → Float → ℕ → ℕ → List ℕ → List ℕ
+elementsShifted lanes dx dy w h bytes = planeShifted (inBytes lanes (roundOffset w dx)) (roundOffset h dy) (lanes * w) h bytes

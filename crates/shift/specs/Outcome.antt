@@ -2,10 +2,10 @@
 use mathlib.Core.Path.{_≡_}
 use mathlib.Core.Bool.{Bool, false, not, _||_}
 use mathlib.Core.List.{List, [], _∷_, _++_}
-use Prim.Native.Nat.{ℕ}
+use Prim.Native.Nat.{ℕ, _*_}
 use lib.ListN.{length}
 use lib.Ieee.{Float}
-use Rattle.picture.specs.Sizes.{Pictured}
+use Rattle.picture.specs.Sizes.{FullSized, Pictured}
 use Rattle.picture.specs.declared.FullSize.{FullSize}
 use Rattle.picture.specs.Refusal.{Check, check, firstOf, pictureChecks}
 use Rattle.picture.specs.Answer.{Answer, settled}
@@ -20,6 +20,12 @@ wrongOffsets dx dy = not (finite dx) || not (finite dy)
 -- what the work needs: a whole picture, and finite offsets
 pub record ShiftReady (size : FullSize) (picture : List ℕ) (dx dy : Float) : Type 0 where
   pub pictured : Pictured (size .w) (size .h) picture
+  pub offsets : wrongOffsets dx dy ≡ false
+
+-- the same of h rows of w elements of so many bytes
+pub record ElementsReady (lanes : ℕ) (size : FullSize) (bytes : List ℕ) (dx dy : Float) : Type 0 where
+  pub sized : FullSized size
+  pub exact : length bytes ≡ size .h * (lanes * size .w)
   pub offsets : wrongOffsets dx dy ≡ false
 
 -- Shift: 1, 2, 7; of the picture's length

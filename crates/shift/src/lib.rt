@@ -8,8 +8,8 @@ ghost use Rattle.picture.specs.Answer.{answered};
 ghost use Rattle.picture.specs.Buffers.{copied};
 ghost use Rattle.binary32.specs.Round.{wholeOffset};
 ghost use Rattle.shift.specs.Shift.{shiftedPicture};
-ghost use Rattle.shift.specs.Bytes.{along, slid, zeroed, runMoved, turnRow, columnsZeroed, insideKept, planeShifted, OneWay, movedOut};
-ghost use Rattle.shift.specs.Outcome.{wrongOffsets, ShiftReady, shiftChecks, shiftOutcome};
+ghost use Rattle.shift.specs.Bytes.{along, slid, zeroed, runMoved, turnRow, columnsZeroed, insideKept, planeShifted, OneWay, movedOut, elementsShifted};
+ghost use Rattle.shift.specs.Outcome.{wrongOffsets, ShiftReady, ElementsReady, shiftChecks, shiftOutcome};
 use binary32::Offset;
 use picture::FullSize;
 
@@ -180,25 +180,41 @@ pub fn move_plane(bytes: &mut [u8], w: usize, h: usize, dx: ByteOffset, dy: Offs
     move_flat(bytes, w, h, dx, dy);
 }
 
-// Moves a picture by dx and dy, each rounded to whole pixels.
-pub fn offset_pixels(picture: &mut [u8], size: FullSize, dx: f32, dy: f32)
-    requires { ⌜ ShiftReady size (now picture) dx dy ⌝ }
-    ensures { λ _. ⌜ now (picture .exit) ≡ shiftedPicture (wholeOffset dx) (wholeOffset dy) (size .w) (size .h) (now (picture .entry)) ⌝ }
+// Moves h rows of w elements of `lanes` bytes by dx and dy, each rounded to whole elements and held to the side: farther than that nothing stays inside.
+fn offset_elements(bytes: &mut [u8], lanes: usize, size: FullSize, dx: f32, dy: f32)
+    requires { ⌜ lanes ≤ 4 ⌝ ∗ ⌜ ElementsReady lanes size (now bytes) dx dy ⌝ }
+    ensures { λ _. ⌜ now (bytes .exit) ≡ elementsShifted lanes dx dy (size .w) (size .h) (now (bytes .entry)) ⌝ }
 {
     let w = size.width();
     let h = size.height();
     let across = binary32::round_offset(dx, w);
     let down = binary32::round_offset(dy, h);
     move_plane(
-        picture,
-        4 * w,
+        bytes,
+        lanes * w,
         h,
         ByteOffset {
-            plus: 4 * across.plus,
-            minus: 4 * across.minus,
+            plus: lanes * across.plus,
+            minus: lanes * across.minus,
         },
         down,
     );
+}
+
+// Moves a picture by dx and dy, each rounded to whole pixels.
+pub fn offset_pixels(picture: &mut [u8], size: FullSize, dx: f32, dy: f32)
+    requires { ⌜ ShiftReady size (now picture) dx dy ⌝ }
+    ensures { λ _. ⌜ now (picture .exit) ≡ shiftedPicture (wholeOffset dx) (wholeOffset dy) (size .w) (size .h) (now (picture .entry)) ⌝ }
+{
+    offset_elements(picture, 4, size, dx, dy);
+}
+
+// Moves one plane of single bytes by dx and dy, each rounded to whole pixels.
+pub fn offset_plane(plane: &mut [u8], size: FullSize, dx: f32, dy: f32)
+    requires { ⌜ ElementsReady 1 size (now plane) dx dy ⌝ }
+    ensures { λ _. ⌜ now (plane .exit) ≡ planeShifted (wholeOffset dx) (wholeOffset dy) (size .w) (size .h) (now (plane .entry)) ⌝ }
+{
+    offset_elements(plane, 1, size, dx, dy);
 }
 
 // Refusal 7's condition, of two offsets.

@@ -1,82 +1,19 @@
--- A picture is a plane of bytes, four to a pixel, and an offset held to the side moves it as the offset does.
-use mathlib.Core.Path.{_≡_, ap}
-use Prim.Native.Nat.{_≤_}
+-- A picture is rows of elements of four bytes.
+use mathlib.Core.Path.{sym, _∙_}
 use native.Mathlib.Omega.{arith}
 use borrow.Author.Needs.{needs}
-use Rattle.picture.proofs.Sizes.{room-is}
-use Rattle.binary32.specs.Round.{wholeOffset}
-use Rattle.binary32.specs.declared.Offset.{Offset}
-use Rattle.binary32.proofs.Offsets.{held}
-use Rattle.shift.proofs.Pixels.{plane-length, picture-moved}
-use Rattle.shift.proofs.Rounded.{one-way, both-finite, rounded-held}
+use Rattle.shift.proofs.Pixels.{row-bytes, picture-moved}
 use Rattle.shift.proofs.offset_pixels.Statement.{statement}
 use Rattle.shift.proofs.offset_pixels.Tie as tie
 
-abbrev start : tie.After-height → tie.Start
-start c = c .before .before .before
-
--- the sides are the size's, and have room
-sides : (c : tie.After-height) → let z = start c .args .size in (c .before .width .result ≡ z .w) × (c .height .result ≡ z .h)
-sides c = (c .before .width .ensures, c .height .ensures)
-
-fits : (c : tie.After-height) → let z = start c .args .size in (z .w ≤ 65536) × (z .h ≤ 65536)
-fits c = let z = start c .pre .pictured .sized in (omega (arith, z .w-high, room-is), omega (arith, z .h-high, room-is))
-
-round-offset-requires : tie.Need-round-offset-requires
-round-offset-requires c κs = omega (arith, sides c, fits c)
-
-round-offset-requires-2 : tie.Need-round-offset-requires-2
-round-offset-requires-2 c κs = omega (arith, sides (c .before), fits (c .before))
-
--- the offsets are rounded, and held to the sides
-across : (c : tie.After-round-offset2) → let a = start (c .before .before) .args in c .before .round-offset .result ≡ held (a .size .w) (wholeOffset (a .dx))
-across c =
-    let s = start (c .before .before) in
-    rounded-held _ _ _ _ (sides (c .before .before) .0) (both-finite (s .args .dx) (s .args .dy) (s .pre .offsets) .0) (c .before .round-offset .ensures)
-
-down : (c : tie.After-round-offset2) → let a = start (c .before .before) .args in c .round-offset2 .result ≡ held (a .size .h) (wholeOffset (a .dy))
-down c =
-    let s = start (c .before .before) in
-    rounded-held _ _ _ _ (sides (c .before .before) .1) (both-finite (s .args .dx) (s .args .dy) (s .pre .offsets) .1) (c .round-offset2 .ensures)
-
-mul-move-plane : tie.Need-mul-move-plane
-mul-move-plane c = let m = c .before .before .before in omega (arith, sides m, fits m)
-
-mul-t13 : tie.Need-mul-t13
-mul-t13 c = let r = c .before .before in omega (arith, ap (λ (o : Offset). o .plus) (across r), fits (r .before .before))
-
-mul-t14 : tie.Need-mul-t14
-mul-t14 c = let r = c .before .before .before in omega (arith, ap (λ (o : Offset). o .minus) (across r), fits (r .before .before))
-
-move-plane-requires : tie.Need-move-plane-requires
-move-plane-requires c κs =
-    let r = c .before .before .before in
-    let m = r .before .before in
-    let a = start m .args in (
-      plane-length _ _ (a .size .w) (a .size .h) (sides m .0) (sides m .1) (a .picture .now) (start m .pre .pictured .exact),
-      rw (across r) (omega (arith, one-way (a .dx))),
-      rw (down r) (omega (arith, one-way (a .dy))),
-    )
+offset-elements-requires : tie.Need-offset-elements-requires
+offset-elements-requires c κs = let s = c .before .before in (omega arith, record { sized = s .pre .pictured .sized; exact = s .pre .pictured .exact ∙ sym (row-bytes (s .args .size .w) (s .args .size .h)); offsets = s .pre .offsets })
 
 returns : tie.Need-returns
 returns c =
-    let r = c .before .before .before .before .before .before in
-    let m = r .before .before in
-    let a = start m .args in
-    rw (c .before .before .move-plane .ensures)
-    (picture-moved _ _ (a .size .w) (a .size .h) (sides m .0) (sides m .1) (a .picture .now) _ _ (wholeOffset (a .dx)) (wholeOffset (a .dy)) (across r) (down r) (one-way (a .dx)) (one-way (a .dy)))
+    let s = c .before .before .before .before .before in
+    let a = s .args in
+    c .before .before .offset-elements .ensures ∙ picture-moved (a .dx) (a .dy) (a .size .w) (a .size .h) (a .picture .now) (s .pre .offsets)
 
 pub offset-pixels-spec : {M : Type 1} → statement M
-offset-pixels-spec =
-    tie.close
-    (tie.spec
-    (λ c κs. search needs)
-    (λ c κs. search needs)
-    round-offset-requires
-    round-offset-requires-2
-    mul-move-plane
-    mul-t13
-    mul-t14
-    move-plane-requires
-    (λ c. search needs)
-    returns)
+offset-pixels-spec = tie.close (tie.spec offset-elements-requires (λ c. search needs) returns)
