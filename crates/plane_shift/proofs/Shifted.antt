@@ -9,22 +9,19 @@ use lib.Dec.{ltb}
 use lib.ListN.{length, getD, length-take, length-drop}
 use borrow.Author.Tests.{ltb-true, ltb-false}
 use borrow.Rule.Slice.PartMut.{midOf, putMid, same-len-mid}
-use Rattle.picture.specs.Planes.{Plane, bytesOf}
+use Rattle.picture.specs.Planes.{Plane}
 use Rattle.picture.specs.Buffers.{lineOf}
 use Rattle.picture.proofs.Build.{getD-build}
 use Rattle.picture.proofs.Planes.{quotient, remainder, pixel-fits}
 use Rattle.picture.proofs.Spans.{within}
 use Rattle.binary32.specs.declared.Offset.{Offset}
-use Rattle.binary32.proofs.Offsets.{held}
-use Rattle.planes.specs.Planar.{planeOf, planar, interleaved, onPlanes}
+use Rattle.planes.specs.Planar.{planeOf, onPlanes}
 use Rattle.planes.proofs.Planar.{planes-ext}
 use Rattle.planes.proofs.Filled.{read}
 use Rattle.planes.proofs.Once.{on-planes}
 use Rattle.shift.specs.Shift.{shifted, shiftedPicture}
-use Rattle.shift.specs.Bytes.{planeShifted, OneWay}
+use Rattle.shift.specs.Bytes.{planeShifted}
 use Rattle.shift.proofs.Moved.{moved-ext}
-use Rattle.shift.proofs.Rounded.{held-picture}
-use Rattle.plane_shift.specs.Shifted.{planesShifted}
 use Rattle.plane_shift.proofs.Lent.{put-before, put-inside, put-after, mid-at}
 
 module _ (dx dy : Offset) (w h : ℕ) where
@@ -109,25 +106,10 @@ module _ (dx dy : Offset) (w h : ℕ) where
         by-below d x y ld lx ly true t = let l = ltb-true d c t in earlier d x y l lx ly ∙ so .below d x y l lx ly
         by-below d x y ld lx ly false t = let m = ltb-false d c t in let e : d ≡ c = omega arith in rw e (here x y lx ly)
 
-  -- all four are moved
-  pub all-moved : (old new : List ℕ) → length old ≡ 4 * (h * w) → BelowMoved old new 4 → new ≡ planesShifted dx dy w h old
-  unfolding planesShifted
+  -- all four are moved: they are the picture moved
+  pub all-moved : (old new : List ℕ) → length old ≡ 4 * (h * w) → BelowMoved old new 4 → new ≡ onPlanes w h (shiftedPicture dx dy w h) old
+  unfolding shiftedPicture
   all-moved old new whole so =
       planes-ext w h _ new (so .size ∙ whole ∙ ap (λ (k : ℕ). 4 * k) (mul-comm h w)) (λ c x y lc lx ly. so .below c x y lc lx ly)
-
-  -- planes moved are the picture moved
-  pub shifted-planes : (planes : List ℕ) → planesShifted dx dy w h planes ≡ onPlanes w h (shiftedPicture dx dy w h) planes
-  unfolding planesShifted shiftedPicture
-  shifted-planes planes =
-      sym (on-planes w h (λ F c. shifted dx dy w h (F c)) (λ F G e c x y lc lx ly. shifted-local (F c) (G c) (λ i j li lj. e c i j lc li lj) x y) (shiftedPicture dx dy w h) (λ p. refl) planes)
-
--- the sides and offsets that the code works out: v by u pixels, and offsets held to the sides
-module _ (v u w h : ℕ) (v-is : v ≡ w) (u-is : u ≡ h) (planes : List ℕ) where
-  pub planes-length : length planes ≡ bytesOf w h → length planes ≡ 4 * (u * v)
-  planes-length e = rw (v-is, u-is) (e ∙ ap (λ (k : ℕ). 4 * k) (mul-comm w h))
-
-  pub planes-moved : (across down dx dy : Offset) → across ≡ held w dx → down ≡ held h dy → OneWay dx → OneWay dy →
-      planesShifted across down v u planes ≡ onPlanes w h (shiftedPicture dx dy w h) planes
-  unfolding onPlanes
-  planes-moved across down dx dy e f o p =
-      rw (v-is, u-is, e, f) (shifted-planes (held w dx) (held h dy) w h planes ∙ ap (planar w h) (held-picture dx dy w h (interleaved w h planes) o p))
+      ∙ sym
+      (on-planes w h (λ F c. shifted dx dy w h (F c)) (λ F G e c x y lc lx ly. shifted-local (F c) (G c) (λ i j li lj. e c i j lc li lj) x y) (shiftedPicture dx dy w h) (λ p. refl) old)

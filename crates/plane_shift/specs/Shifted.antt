@@ -1,4 +1,4 @@
--- Four planes moved, each by itself; and what the entry `shift_planes` answers and leaves behind, for any input.
+-- What the entry `shift_planes` answers and leaves behind, for any input.
 use mathlib.Core.List.{List}
 use Prim.Native.Nat.{ℕ}
 use lib.ListN.{length}
@@ -6,14 +6,9 @@ use lib.Ieee.{Float}
 use Rattle.picture.specs.Refusal.{firstOf}
 use Rattle.picture.specs.Answer.{Answer, settled}
 use Rattle.binary32.specs.Round.{wholeOffset}
-use Rattle.binary32.specs.declared.Offset.{Offset}
-use Rattle.planes.specs.Planar.{planeOf, paintedPlanes, onPlanes}
-use Rattle.shift.specs.Shift.{shifted, shiftedPicture}
+use Rattle.planes.specs.Planar.{onPlanes}
+use Rattle.shift.specs.Shift.{shiftedPicture}
 use Rattle.shift.specs.Outcome.{shiftChecks}
-
--- the bytes of four planes of w by h, each moved by dx and dy
-unfoldable pub planesShifted : Offset → Offset → ℕ → ℕ → List ℕ → List ℕ
-planesShifted dx dy w h planes = paintedPlanes w h (λ c. shifted dx dy w h (planeOf planes w h c))
 
 -- Shift on planes: the refusals of Shift; or the planes moved as the picture that they are
 unfoldable pub shiftPlanesOutcome : List ℕ → ℕ → ℕ → Float → Float → Answer (List ℕ)

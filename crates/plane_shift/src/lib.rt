@@ -1,52 +1,26 @@
 // The shift on four planes, with the refusals of that on a picture: each plane is moved by itself, where it lies.
-use binary32::Offset;
 use picture::FullSize;
-use shift::ByteOffset;
 ghost use mathlib.Core.Path.{_≡_};
-ghost use Prim.Native.Nat.{_*_};
-ghost use lib.ListN.{length};
 ghost use Rattle.picture.specs.Refusal.{firstOf};
 ghost use Rattle.picture.specs.Answer.{answered};
 ghost use Rattle.binary32.specs.Round.{wholeOffset};
 ghost use Rattle.planes.specs.Planar.{onPlanes};
 ghost use Rattle.shift.specs.Shift.{shiftedPicture};
-ghost use Rattle.shift.specs.Bytes.{along, OneWay};
 ghost use Rattle.shift.specs.Outcome.{ShiftReady, shiftChecks};
-ghost use Rattle.plane_shift.specs.Shifted.{planesShifted, shiftPlanesOutcome};
+ghost use Rattle.plane_shift.specs.Shifted.{shiftPlanesOutcome};
 
-// Moves each of four planes of h rows of w bytes by dx and dy.
-fn move_planes(planes: &mut [u8], w: usize, h: usize, dx: ByteOffset, dy: Offset)
-    requires { ⌜ (length (now planes) ≡ 4 * (h * w)) × OneWay (along dx) × OneWay dy ⌝ }
-    ensures { λ _. ⌜ now (planes .exit) ≡ planesShifted (along dx) dy w h (now (planes .entry)) ⌝ }
+// Moves four planes by dx and dy, each rounded to whole pixels: plane after plane, where they lie.
+fn offset_planes(planes: &mut [u8], size: FullSize, dx: f32, dy: f32)
+    requires { ⌜ ShiftReady size (now planes) dx dy ⌝ }
+    ensures { λ _. ⌜ now (planes .exit) ≡ onPlanes (size .w) (size .h) (shiftedPicture (wholeOffset dx) (wholeOffset dy) (size .w) (size .h)) (now (planes .entry)) ⌝ }
 {
     let n = planes.len() / 4;
     let mut c = 0;
     while c < 4 {
         let start = c * n;
-        shift::move_plane(&mut planes[start..start + n], w, h, dx, dy);
+        shift::offset_plane(&mut planes[start..start + n], size, dx, dy);
         c += 1;
     }
-}
-
-// Moves four planes by dx and dy, each rounded to whole pixels.
-fn offset_planes(planes: &mut [u8], size: FullSize, dx: f32, dy: f32)
-    requires { ⌜ ShiftReady size (now planes) dx dy ⌝ }
-    ensures { λ _. ⌜ now (planes .exit) ≡ onPlanes (size .w) (size .h) (shiftedPicture (wholeOffset dx) (wholeOffset dy) (size .w) (size .h)) (now (planes .entry)) ⌝ }
-{
-    let w = size.width();
-    let h = size.height();
-    let across = binary32::round_offset(dx, w);
-    let down = binary32::round_offset(dy, h);
-    move_planes(
-        planes,
-        w,
-        h,
-        ByteOffset {
-            plus: across.plus,
-            minus: across.minus,
-        },
-        down,
-    );
 }
 
 // The first of refusals 1, 2 and 7 that fits, 0 where none does; of the planes' length.

@@ -1,69 +1,89 @@
--- Each plane is moved by itself, and an offset held to the side moves it as the offset does.
-use mathlib.Core.Path.{_≡_}
-use Prim.Native.Nat.{_≤_}
+-- The planes below c are moved, and the others are as they were.
+use mathlib.Core.Path.{_≡_, refl, ap, _∙_}
+use Prim.Native.Nat.{ℕ, _+_, _-_, _*_, _/_, _≤_}
+use native.Mathlib.Nat.{mul-comm, one-mul}
 use native.Mathlib.Omega.{arith}
-use borrow.Author.Needs.{needs}
-use Rattle.picture.proofs.Sizes.{room-is}
+use lib.ListN.{length, length-take, length-drop}
+use Rattle.picture.proofs.Spans.{within}
 use Rattle.binary32.specs.Round.{wholeOffset}
-use Rattle.binary32.proofs.Offsets.{held}
-use Rattle.shift.proofs.Rounded.{one-way, both-finite, rounded-held}
-use Rattle.plane_shift.proofs.Shifted.{planes-length, planes-moved}
+use Rattle.plane_shift.proofs.Shifted.{BelowMoved, none-moved, plane-more, all-moved}
 use Rattle.plane_shift.proofs.offset_planes.Statement.{statement}
 use Rattle.plane_shift.proofs.offset_planes.Tie as tie
 
-abbrev start : tie.After-height → tie.Start
-start c = c .before .before .before
+abbrev Inv-loop : tie.InvT-loop
+Inv-loop planes₀ size dx dy n c₀ planes c = (c ≤ 4) × (length planes ≡ length planes₀) × BelowMoved (wholeOffset dx) (wholeOffset dy) (size .w) (size .h) planes₀ planes c
 
--- the sides are the size's, and have room
-sides : (c : tie.After-height) → let z = start c .args .size in (c .before .width .result ≡ z .w) × (c .height .result ≡ z .h)
-sides c = (c .before .width .ensures, c .height .ensures)
+abbrev μ-loop : tie.MeasureT-loop
+μ-loop planes₀ size dx dy n c₀ planes c = 4 - c
 
-fits : (c : tie.After-height) → let z = start c .args .size in (z .w ≤ 65536) × (z .h ≤ 65536)
-fits c = let z = start c .pre .pictured .sized in (omega (arith, z .w-high, room-is), omega (arith, z .h-high, room-is))
+loop-holds : tie.Need-loop-holds Inv-loop μ-loop
+loop-holds c = let a = c .before .args in (omega arith, refl, none-moved (wholeOffset (a .dx)) (wholeOffset (a .dy)) (a .size .w) (a .size .h) (a .planes .now))
 
-round-offset-requires : tie.Need-round-offset-requires
-round-offset-requires c κs = omega (arith, sides c, fits c)
+-- there are four planes
+four : (s : tie.Start Inv-loop μ-loop) → length (s .args .planes .now) ≡ 4 * (s .args .size .h * s .args .size .w)
+four s = s .pre .pictured .exact ∙ ap (λ (k : ℕ). 4 * k) (mul-comm (s .args .size .w) (s .args .size .h))
 
-round-offset-requires-2 : tie.Need-round-offset-requires-2
-round-offset-requires-2 c κs = omega (arith, sides (c .before), fits (c .before))
+-- plane c lies inside
+room : (c : tie.In-loop Inv-loop μ-loop) → let l = c .before in let all = length (l .before .before .args .planes .now) in l .loop .c * (all / 4) + all / 4 ≤ all
+room c = let l = c .before in omega (arith, within 0 (length (l .before .before .args .planes .now) / 4) (l .loop .c) 4 (omega arith))
 
--- the offsets are rounded, and held to the sides
-across : (c : tie.After-round-offset2) → let a = start (c .before .before) .args in c .before .round-offset .result ≡ held (a .size .w) (wholeOffset (a .dx))
-across c =
-    let s = start (c .before .before) in
-    rounded-held _ _ _ _ (sides (c .before .before) .0) (both-finite (s .args .dx) (s .args .dy) (s .pre .offsets) .0) (c .before .round-offset .ensures)
+mul-start : tie.Need-mul-start Inv-loop μ-loop
+mul-start c = omega (arith, room c)
 
-down : (c : tie.After-round-offset2) → let a = start (c .before .before) .args in c .round-offset2 .result ≡ held (a .size .h) (wholeOffset (a .dy))
-down c =
-    let s = start (c .before .before) in
-    rounded-held _ _ _ _ (sides (c .before .before) .1) (both-finite (s .args .dx) (s .args .dy) (s .pre .offsets) .1) (c .round-offset2 .ensures)
+add-offset-plane : tie.Need-add-offset-plane Inv-loop μ-loop
+add-offset-plane c = omega (arith, room c)
 
-move-planes-requires : tie.Need-move-planes-requires
-move-planes-requires c κs =
-    let r = c .before in
-    let m = r .before .before in
-    let a = start m .args in (
-      planes-length _ _ (a .size .w) (a .size .h) (sides m .0) (sides m .1) (a .planes .now) (start m .pre .pictured .exact),
-      rw (across r) (omega (arith, one-way (a .dx))),
-      rw (down r) (omega (arith, one-way (a .dy))),
-    )
+sub-offset-plane : tie.Need-sub-offset-plane Inv-loop μ-loop
+sub-offset-plane c = omega arith
 
-returns : tie.Need-returns
+part-offset-plane-start : tie.Need-part-offset-plane-start Inv-loop μ-loop
+part-offset-plane-start c = omega (arith, room c)
+
+part-offset-plane-end : tie.Need-part-offset-plane-end Inv-loop μ-loop
+part-offset-plane-end c = omega (arith, room c)
+
+offset-plane-requires : tie.Need-offset-plane-requires Inv-loop μ-loop
+offset-plane-requires c κs =
+    let s = c .before .before .before .before in
+    record {
+      sized = s .pre .pictured .sized;
+      exact = rw (one-mul (s .args .size .w)) (simp (length-take, length-drop) (omega (arith, room (c .before), four s)));
+      offsets = s .pre .offsets;
+    }
+
+loop-again : tie.Need-loop-again Inv-loop μ-loop
+loop-again c =
+    let l = c .before .before .before .before .before in
+    let s = l .before .before in
+    let a = s .args in
+    let moved =
+    plane-more (wholeOffset (a .dx)) (wholeOffset (a .dy)) (a .size .w) (a .size .h) (a .planes .now) (l .loop .planes) (c .before .before .offset-plane .last .0) (l .loop .c) (length (a .planes .now) / 4)
+    (omega (arith, four s)) (four s) (omega arith) (l .loop .inv .2) (c .before .before .offset-plane .kept .0) (c .before .before .offset-plane .ensures) in
+    (omega arith, moved .size, moved)
+
+returns : tie.Need-returns Inv-loop μ-loop
 returns c =
-    let r = c .before .before .before .before in
-    let m = r .before .before in
-    let a = start m .args in
-    rw (c .before .before .move-planes .ensures)
-    (planes-moved _ _ (a .size .w) (a .size .h) (sides m .0) (sides m .1) (a .planes .now) _ _ (wholeOffset (a .dx)) (wholeOffset (a .dy)) (across r) (down r) (one-way (a .dx)) (one-way (a .dy)))
+    let l = c .before in
+    let s = l .before .before in
+    let a = s .args in
+    let all : l .loop .c ≡ 4 = omega arith in
+    all-moved (wholeOffset (a .dx)) (wholeOffset (a .dy)) (a .size .w) (a .size .h) (a .planes .now) (l .loop .planes) (four s) (rw all at (l .loop .inv .2))
 
 pub offset-planes-spec : {M : Type 1} → statement M
 offset-planes-spec =
     tie.close
     (tie.spec
-    (λ c κs. search needs)
-    (λ c κs. search needs)
-    round-offset-requires
-    round-offset-requires-2
-    move-planes-requires
-    (λ c. search needs)
+    Inv-loop
+    μ-loop
+    loop-holds
+    mul-start
+    add-offset-plane
+    sub-offset-plane
+    part-offset-plane-start
+    part-offset-plane-end
+    offset-plane-requires
+    (λ c. omega arith)
+    (λ c. omega arith)
+    loop-again
+    (λ c. omega arith)
     returns)
