@@ -12,7 +12,7 @@ use Rattle.picture.specs.Planes.{Plane}
 use Rattle.picture.proofs.Build.{getD-build, build-same}
 use Rattle.picture.proofs.Planes.{pixel-fits}
 use Rattle.composite.specs.Channels.{shadowAlpha}
-use Rattle.composite.specs.Shadow.{tinted}
+use Rattle.composite.specs.Shadow.{tinted, shadowOf}
 use Rattle.composite.specs.Plane.{planeIn, through, shadowAlphas, tintOf, tintedBy, tintOn, shadowOn}
 use Rattle.composite.specs.declared.Colour.{Colour}
 
@@ -36,9 +36,10 @@ pub laid-shadow : (composite : Bool) (colour : Colour) (F : ℕ → Plane) (plan
 unfolding tintOn
 laid-shadow composite colour F plane w h e c x y lx ly = rw (alphas-at (colour .alpha) plane w h x y e lx ly)
 
-pub tinted-is : (colour : Colour) (alpha c : ℕ) → tintedBy (tintOf colour) alpha c ≡ tinted colour alpha c
-unfolding tintedBy tinted
-tinted-is colour alpha zero = refl
-tinted-is colour alpha (suc zero) = refl
-tinted-is colour alpha (suc (suc zero)) = refl
-tinted-is colour alpha (suc (suc (suc c))) = refl
+-- the tint of a colour gives its shadow's channels
+pub as-tint : (colour : Colour) (a c : ℕ) → shadowOf colour a c ≡ tintedBy (tintOf colour) (shadowAlpha (colour .alpha) a) c
+unfolding tintedBy tinted shadowOf
+as-tint colour a zero = refl
+as-tint colour a (suc zero) = refl
+as-tint colour a (suc (suc zero)) = refl
+as-tint colour a (suc (suc (suc c))) = refl

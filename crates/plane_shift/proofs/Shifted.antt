@@ -21,15 +21,10 @@ use Rattle.planes.proofs.Filled.{read}
 use Rattle.planes.proofs.Once.{on-planes}
 use Rattle.shift.specs.Shift.{shifted, shiftedPicture}
 use Rattle.shift.specs.Bytes.{planeShifted}
-use Rattle.shift.proofs.Moved.{moved-ext}
+use Rattle.shift.proofs.Moved.{shifted-local}
 use Rattle.plane_shift.proofs.Lent.{put-before, put-inside, put-after, mid-at}
 
 module _ (dx dy : Offset) (w h : ℕ) where
-  -- a plane that is moved looks only inside
-  shifted-local : (P Q : Plane) → ((x y : ℕ) → x < w → y < h → P x y ≡ Q x y) → (x y : ℕ) → shifted dx dy w h P x y ≡ shifted dx dy w h Q x y
-  unfolding shifted
-  shifted-local P Q e x y = moved-ext dx w _ _ x (λ i li. moved-ext dy h (P i) (Q i) y (λ j lj. e i j li lj))
-
   -- one plane's bytes, moved
   plane-at : (bytes : List ℕ) (x y : ℕ) → x < w → y < h → getD (planeShifted dx dy w h bytes) (y * w + x) 0 ≡ shifted dx dy w h (λ i j. lineOf bytes (j * w + i)) x y
   unfolding planeShifted
@@ -74,7 +69,7 @@ module _ (dx dy : Offset) (w h : ℕ) where
         ∙ put-inside (c * n) k new part fits long (y * w + x) inside
         ∙ read-of made (y * w + x)
         ∙ plane-at (midOf (c * n) k new) x y lx ly
-        ∙ shifted-local _ _
+        ∙ shifted-local dx dy w h _ _
         (λ i j li lj.
         let inner : j * w + i < k = omega (arith, pixel-fits w h i j li lj, is) in
         mid-at (c * n) k new part fits long (j * w + i) inner
@@ -112,4 +107,4 @@ module _ (dx dy : Offset) (w h : ℕ) where
   all-moved old new whole so =
       planes-ext w h _ new (so .size ∙ whole ∙ ap (λ (k : ℕ). 4 * k) (mul-comm h w)) (λ c x y lc lx ly. so .below c x y lc lx ly)
       ∙ sym
-      (on-planes w h (λ F c. shifted dx dy w h (F c)) (λ F G e c x y lc lx ly. shifted-local (F c) (G c) (λ i j li lj. e c i j lc li lj) x y) (shiftedPicture dx dy w h) (λ p. refl) old)
+      (on-planes w h (λ F c. shifted dx dy w h (F c)) (λ F G e c x y lc lx ly. shifted-local dx dy w h (F c) (G c) (λ i j li lj. e c i j lc li lj) x y) (shiftedPicture dx dy w h) (λ p. refl) old)

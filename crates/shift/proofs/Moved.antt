@@ -5,12 +5,12 @@ use Prim.Native.Nat.{ℕ, _+_, _-_, _≤_, _<_}
 use native.Mathlib.Omega.{arith}
 use lib.Dec.{ltb}
 use borrow.Author.Tests.{lt-ltb, le-ltb, ltb-true, ltb-false}
-use Rattle.picture.specs.Planes.{Line}
+use Rattle.picture.specs.Planes.{Line, Plane}
 use Rattle.picture.specs.declared.EdgeMode.the-variants.{None}
 use Rattle.edges.specs.Edges.{place, sample}
 use Rattle.edges.proofs.Samples.{sample-near}
 use Rattle.binary32.specs.declared.Offset.{Offset}
-use Rattle.shift.specs.Shift.{moved}
+use Rattle.shift.specs.Shift.{moved, shifted}
 use Rattle.shift.specs.Bytes.{OneWay}
 
 -- where c - d lies, of a line of s elements
@@ -61,6 +61,11 @@ module _ (d : Offset) (s : ℕ) (line : Line) (x : ℕ) where
 -- two lines that agree
 pub moved-ext : (d : Offset) (s : ℕ) (f g : Line) (x : ℕ) → ((i : ℕ) → i < s → f i ≡ g i) → moved d s f x ≡ moved d s g x
 moved-ext d s f g x h = moved-is d s g x _ (from-before d s f x) (λ i e l. from-inside d s f x i e l ∙ h i l) (from-past d s f x)
+
+-- a plane that is moved looks only inside
+pub shifted-local : (dx dy : Offset) (w h : ℕ) (p q : Plane) → ((x y : ℕ) → x < w → y < h → p x y ≡ q x y) → (x y : ℕ) → shifted dx dy w h p x y ≡ shifted dx dy w h q x y
+unfolding shifted
+shifted-local dx dy w h p q e x y = moved-ext dx w _ _ x (λ i li. moved-ext dy h (p i) (q i) y (λ j lj. e i j li lj))
 
 -- two moves that agree in where they look: element i of the one line is element k i of the other
 module _ (d : Offset) (s x : ℕ) (e : Offset) (t y : ℕ) (k : ℕ → ℕ) (line : Line) where
