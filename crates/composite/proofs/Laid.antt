@@ -8,17 +8,22 @@ use native.Mathlib.Omega.{arith}
 use lib.Ieee.{Float}
 use lib.ListN.{length, getD}
 use Rattle.picture.specs.Build.{build}
-use Rattle.picture.specs.Planes.{Plane}
+use Rattle.picture.specs.Planes.{Plane, chan}
 use Rattle.picture.proofs.Build.{getD-build, build-same}
 use Rattle.picture.proofs.Planes.{pixel-fits}
 use Rattle.composite.specs.Channels.{shadowAlpha}
 use Rattle.composite.specs.Shadow.{tinted, shadowOf}
-use Rattle.composite.specs.Plane.{planeIn, through, shadowAlphas, tintOf, tintedBy, tintOn, shadowOn}
+use Rattle.composite.specs.Plane.{planeIn, alphasIn, through, shadowAlphas, tintOf, tintedBy, tintOn, shadowOn}
 use Rattle.composite.specs.declared.Colour.{Colour}
 
 pub plane-here : (bytes : List ℕ) (w i : ℕ) → planeIn bytes w (i % w) (i / w) ≡ getD bytes i 0
 unfolding planeIn
 plane-here bytes w i = ap (λ (k : ℕ). getD bytes k 0) (div-add-mod' i w)
+
+-- the alphas of a picture, as a plane
+pub alphas-plane : (n : ℕ) (picture : List ℕ) (w h x y : ℕ) → n ≡ w * h → x < w → y < h → planeIn (alphasIn n picture) w x y ≡ chan picture w 3 x y
+unfolding planeIn alphasIn chan
+alphas-plane n picture w h x y e lx ly = getD-build n _ (y * w + x) (omega (arith, pixel-fits w h x y lx ly, mul-comm w h))
 
 -- a plane through the table of the shadow's alphas
 pub through-alphas : (alpha : Float) (plane table : List ℕ) → ((i : ℕ) → getD plane i 0 < 256) → table ≡ build 256 (shadowAlpha alpha) → through table plane ≡ shadowAlphas alpha plane

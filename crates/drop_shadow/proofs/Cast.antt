@@ -4,26 +4,43 @@ use mathlib.Core.Path.{_≡_, _∙_, sym, ap}
 use mathlib.Core.Bool.{Bool, true, false, cond}
 use mathlib.Core.List.{List}
 use Prim.Native.Nat.{ℕ, _+_, _*_, _/_, _%_, _<_}
+use native.Mathlib.Nat.{mul-one, one-mul, mod-lt, div-lt-iff-lt-mul}
 use native.Mathlib.Omega.{arith}
 use lib.Ieee.{Float}
-use lib.ListN.{length}
 use Rattle.picture.specs.Planes.{Plane, chan, painted}
 use Rattle.picture.specs.declared.EdgeMode.{EdgeMode}
-use Rattle.picture.proofs.Build.{getD-build}
-use Rattle.picture.proofs.Planes.{quotient, remainder, pixel-fits, chan-painted, painted-same}
+use Rattle.picture.proofs.Build.{build-ext}
+use Rattle.picture.proofs.Planes.{chan-painted, painted-same}
+use Rattle.binary32.specs.Round.{wholeOffset}
 use Rattle.passes.specs.Passes.{halve, double, convolve}
+use Rattle.passes.specs.Forms.{ofPlanes, formBytes, readAs, writeAs, Formed}
+use Rattle.passes.proofs.Forms.{length-write, read-write}
+use Rattle.passes.proofs.Planes.{at}
 use Rattle.passes.proofs.Local.{Same, halve-local, double-local, convolve-local, blur-local}
 use Rattle.composite.specs.Channels.{shadowAlpha, over}
 use Rattle.composite.specs.Shadow.{shadowOf, coloured, composed, written}
 use Rattle.composite.specs.Plane.{planeIn, tintOf, tintedBy, tintOn, shadowOn}
-use Rattle.composite.proofs.Laid.{as-tint}
+use Rattle.composite.proofs.Laid.{plane-here, as-tint}
 use Rattle.shift.specs.Shift.{shiftedPicture}
+use Rattle.shift.specs.Bytes.{planeShifted}
+use Rattle.shift.proofs.Plane.{plane-built}
 use Rattle.shift.proofs.Moved.{shifted-local}
-use Rattle.gaussian_blur.specs.Blurred.{blurredPlane, blurred}
+use Rattle.gaussian_blur.specs.Blurred.{blurredPlane, blurred, blurredForm}
 use Rattle.gaussian_blur.specs.Outcome.{aboveZero, blurredOrKept}
 use Rattle.drop_shadow.specs.Shadowed.{colourOf, cast, shadowed}
 use Rattle.drop_shadow.specs.Cast.{movedPlane, castPlane, castBytes}
 use Rattle.drop_shadow.specs.declared.Recipe.{Recipe}
+
+-- a plane of single bytes as a form
+pub plane-bytes : (w h : ℕ) → formBytes (ofPlanes 1) w h ≡ h * w
+plane-bytes w h = rw (mul-one w, one-mul (h * w))
+
+pub plane-formed : Formed (ofPlanes 1)
+plane-formed = record { planes-low = omega arith; planes-high = omega arith; lanes-low = omega arith; lanes-high = omega arith }
+
+plane-read : (bytes : List ℕ) (w h x y : ℕ) → readAs (ofPlanes 1) bytes w h 0 x y ≡ planeIn bytes w x y
+unfolding readAs planeIn
+plane-read bytes w h x y = at bytes (rw (mul-one w, mul-one x) (omega arith))
 
 module _ (mode : EdgeMode) (weights : List Float) (n : ℕ) (recipe : Recipe) (w h : ℕ) (zw : 0 < w) (zh : 0 < h) where
   abbrev blurs : (P Q : Plane) → Same w h P Q → (x y : ℕ) → blurredPlane mode weights n w h P x y ≡ blurredPlane mode weights n w h Q x y
@@ -57,7 +74,7 @@ module _ (mode : EdgeMode) (weights : List Float) (n : ℕ) (recipe : Recipe) (w
   -- a plane's bytes that are cast
   pub cast-at : (bytes : List ℕ) (x y : ℕ) → x < w → y < h → planeIn (castBytes mode weights n recipe w h bytes) w x y ≡ castPlane mode weights n recipe w h (planeIn bytes w) x y
   unfolding planeIn castBytes
-  cast-at bytes x y lx ly = rw (getD-build (h * w) _ (y * w + x) (pixel-fits w h x y lx ly), remainder w y x lx, quotient w y x lx)
+  cast-at bytes x y lx ly = plane-built w h (castPlane mode weights n recipe w h (planeIn bytes w)) x y lx ly
 
   module _ (composite : Bool) where
     -- the shadow of channels, cast by the last of them
@@ -95,3 +112,28 @@ module _ (mode : EdgeMode) (weights : List Float) (n : ℕ) (recipe : Recipe) (w
             ≡ painted w h (λ c x y. cond b (over (chan p w c x y) (tinted-pixel c x y) (chan p w 3 x y)) (tinted-pixel c x y))
         by true = painted-same w h _ _ (λ c x y lc lx ly. ap (λ (v : ℕ). over (chan p w c x y) v (chan p w 3 x y)) (chan-painted w h _ c x y lc lx ly ∙ here c x y lx ly))
         by false = painted-same w h _ _ (λ c x y lc lx ly. here c x y lx ly)
+
+  -- bytes that were moved, in the form of one plane, blurred or kept
+  module _ (bytes moved : List ℕ) (made : moved ≡ planeShifted (wholeOffset (recipe .dx)) (wholeOffset (recipe .dy)) w h bytes) where
+    moved-at : (x y : ℕ) → x < w → y < h → readAs (ofPlanes 1) moved w h 0 x y ≡ movedPlane recipe w h (planeIn bytes w) x y
+    unfolding planeIn planeShifted
+    moved-at x y lx ly = plane-read moved w h x y ∙ ap (λ (l : List ℕ). planeIn l w x y) made ∙ plane-built w h (movedPlane recipe w h (planeIn bytes w)) x y lx ly
+
+    pub cast-blurred : aboveZero (recipe .strength) ≡ true → blurredForm (ofPlanes 1) mode weights n w h moved ≡ castBytes mode weights n recipe w h bytes
+    unfolding castBytes castPlane
+    cast-blurred on =
+        let F : ℕ → Plane = λ c. blurredPlane mode weights n w h (readAs (ofPlanes 1) moved w h c) in
+        let L = writeAs (ofPlanes 1) w h F in
+        rw on
+        (build-ext (h * w) _ L (length-write (ofPlanes 1) w h F ∙ plane-bytes w h)
+        (λ i l.
+        let lx = mod-lt i zw in
+        let ly = div-lt-iff-lt-mul zw .1 l in
+        sym (plane-here L w i)
+        ∙ sym (plane-read L w h (i % w) (i / w))
+        ∙ read-write (ofPlanes 1) w h F 0 (i % w) (i / w) (omega arith) lx ly
+        ∙ blurs _ _ moved-at (i % w) (i / w)))
+
+    pub cast-kept : aboveZero (recipe .strength) ≡ false → moved ≡ castBytes mode weights n recipe w h bytes
+    unfolding castBytes castPlane planeShifted planeIn
+    cast-kept off = rw off made

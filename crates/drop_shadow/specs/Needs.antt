@@ -2,10 +2,10 @@
 use mathlib.Core.Path.{_≡_}
 use mathlib.Core.Bool.{false}
 use mathlib.Core.List.{List}
-use Prim.Native.Nat.{ℕ, _≤_}
+use Prim.Native.Nat.{ℕ, _*_, _≤_}
 use lib.Ieee.{Float}
 use lib.ListN.{length}
-use Rattle.picture.specs.Sizes.{fullBytes, Pictured}
+use Rattle.picture.specs.Sizes.{FullSized, fullBytes, Pictured}
 use Rattle.picture.specs.declared.FullSize.{FullSize}
 use Rattle.passes.specs.Kernel.{Kernel}
 use Rattle.composite.specs.Shadow.{InUnit}
@@ -19,10 +19,11 @@ pub record Given (weights : List Float) (recipe : Recipe) : Type 0 where
   pub offsets : wrongOffsets (recipe .dx) (recipe .dy) ≡ false
   pub colour : InUnit (colourOf recipe)
 
--- work buffers of exactly this size
-pub record ShadowReady (size : FullSize) (scratch copy : List ℕ) (weights : List Float) (recipe : Recipe) : Type 0 where
-  pub copied : Pictured (size .w) (size .h) copy
-  pub scratch-is : length scratch ≡ fullBytes size
+-- a plane of single bytes, and a scratch for it, of exactly this size
+pub record ShadowReady (size : FullSize) (scratch plane : List ℕ) (weights : List Float) (recipe : Recipe) : Type 0 where
+  pub sized : FullSized size
+  pub plane-is : length plane ≡ size .w * size .h
+  pub scratch-is : length scratch ≡ size .w * size .h
   pub given : Given weights recipe
 
 -- a picture of exactly this size, and work buffers that may be longer

@@ -1,5 +1,6 @@
 // The drop shadow: the recipe, apply_drop_shadow, and the entry `shadow`.
 use composite::Colour;
+use passes::Form;
 use picture::EdgeMode;
 use picture::FullSize;
 ghost use mathlib.Core.Path.{_≡_};
@@ -8,7 +9,8 @@ ghost use Rattle.picture.specs.Planes.{bytesOf, cleared};
 ghost use Rattle.picture.specs.Sizes.{fullBytes};
 ghost use Rattle.picture.specs.Refusal.{firstOf};
 ghost use Rattle.picture.specs.Answer.{answered, lentCopy};
-ghost use Rattle.drop_shadow.specs.Shadowed.{colourOf, cast, shadowed};
+ghost use Rattle.drop_shadow.specs.Shadowed.{colourOf, shadowed};
+ghost use Rattle.drop_shadow.specs.Cast.{castBytes};
 ghost use Rattle.drop_shadow.specs.Needs.{ShadowReady, ShadowAccepted};
 ghost use Rattle.drop_shadow.specs.Outcome.{eitherShort, notFinite, wrongColour, shadowChecks, shadowOutcome};
 
@@ -23,7 +25,7 @@ pub struct Recipe {
     pub alpha: f32,
 }
 
-fn colour_of(recipe: Recipe) -> Colour
+pub fn colour_of(recipe: Recipe) -> Colour
     ensures { λ r. ⌜ r ≡ colourOf recipe ⌝ }
 {
     Colour {
@@ -34,9 +36,9 @@ fn colour_of(recipe: Recipe) -> Colour
     }
 }
 
-// Shifts the copy, and blurs it when the strength is above zero.
-fn cast_shadow(
-    copy: &mut [u8],
+// Shifts a plane of alphas, and blurs it when the strength is above zero.
+pub fn cast_plane(
+    plane: &mut [u8],
     size: FullSize,
     scratch: &mut [u8],
     weights: &[f32],
@@ -44,32 +46,45 @@ fn cast_shadow(
     mode: EdgeMode,
     recipe: Recipe,
 )
-    requires { ⌜ ShadowReady size (now scratch) (now copy) (now weights) recipe ⌝ }
-    ensures { λ _. ⌜ now (copy .exit) ≡ cast mode (now (weights .entry)) n recipe (size .w) (size .h) (now (copy .entry)) ⌝ }
+    requires { ⌜ ShadowReady size (now scratch) (now plane) (now weights) recipe ⌝ }
+    ensures { λ _. ⌜ now (plane .exit) ≡ castBytes mode (now (weights .entry)) n recipe (size .w) (size .h) (now (plane .entry)) ⌝ }
 {
-    shift::offset_pixels(copy, size, recipe.dx, recipe.dy);
-    gaussian_blur::blur_or_keep(copy, scratch, size, n, weights, mode, recipe.strength);
+    shift::offset_plane(plane, size, recipe.dx, recipe.dy);
+    if 0.0 < recipe.strength {
+        gaussian_blur::apply_blur(
+            plane,
+            scratch,
+            size.level_zero(),
+            Form {
+                planes: 1,
+                lanes: 1,
+            },
+            n,
+            weights,
+            mode,
+        );
+    }
 }
 
-// Copies the picture, casts the copy as a shadow, colours it, and lays the picture over it.
+// Takes the picture's alphas, casts them as a shadow, colours it, and lays the picture over it.
 pub fn apply_drop_shadow(
     picture: &mut [u8],
     size: FullSize,
     scratch: &mut [u8],
-    copy: &mut [u8],
+    plane: &mut [u8],
     weights: &[f32],
     n: u32,
     mode: EdgeMode,
     recipe: Recipe,
     composite: bool,
 )
-    requires { ⌜ ShadowReady size (now scratch) (now copy) (now weights) recipe ⌝ ∗ ⌜ length (now picture) ≡ fullBytes size ⌝ }
+    requires { ⌜ ShadowReady size (now scratch) (now plane) (now weights) recipe ⌝ ∗ ⌜ length (now picture) ≡ fullBytes size ⌝ }
     ensures { λ _. ⌜ now (picture .exit) ≡ shadowed mode (now (weights .entry)) n recipe composite (size .w) (size .h) (now (picture .entry)) ⌝ }
 {
-    pixels::copy_bytes(copy, picture);
-    cast_shadow(copy, size, scratch, weights, n, mode, recipe);
+    composite::take_alphas(plane, picture);
+    cast_plane(plane, size, scratch, weights, n, mode, recipe);
     let colour = colour_of(recipe);
-    composite::write_colored_shadow(copy, picture, size, colour, composite);
+    composite::write_shadow(plane, picture, size, colour, composite);
 }
 
 // Refusal 3's condition, of both work buffers.
@@ -158,11 +173,12 @@ fn shadow_accepted(
     ensures { λ _. ⌜ lentCopy (now (picture .exit)) (now (scratch .exit)) (now (copy .exit)) ≡ lentCopy (shadowed mode (now (weights .entry)) n recipe composite (size .w) (size .h) (now (picture .entry))) (cleared (bytesOf (size .w) (size .h)) (now (scratch .entry))) (cleared (bytesOf (size .w) (size .h)) (now (copy .entry))) ⌝ }
 {
     let k = size.bytes();
+    let area = k / 4;
     apply_drop_shadow(
         picture,
         size,
-        &mut scratch[..k],
-        &mut copy[..k],
+        &mut scratch[..area],
+        &mut copy[..area],
         weights,
         n,
         mode,

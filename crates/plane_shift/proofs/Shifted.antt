@@ -11,8 +11,7 @@ use borrow.Author.Tests.{ltb-true, ltb-false}
 use borrow.Rule.Slice.PartMut.{midOf, putMid, same-len-mid}
 use Rattle.picture.specs.Planes.{Plane}
 use Rattle.picture.specs.Buffers.{lineOf}
-use Rattle.picture.proofs.Build.{getD-build}
-use Rattle.picture.proofs.Planes.{quotient, remainder, pixel-fits}
+use Rattle.picture.proofs.Planes.{pixel-fits}
 use Rattle.picture.proofs.Spans.{within}
 use Rattle.binary32.specs.declared.Offset.{Offset}
 use Rattle.planes.specs.Planar.{planeOf, onPlanes}
@@ -22,13 +21,14 @@ use Rattle.planes.proofs.Once.{on-planes}
 use Rattle.shift.specs.Shift.{shifted, shiftedPicture}
 use Rattle.shift.specs.Bytes.{planeShifted}
 use Rattle.shift.proofs.Moved.{shifted-local}
+use Rattle.shift.proofs.Plane.{plane-built}
 use Rattle.plane_shift.proofs.Lent.{put-before, put-inside, put-after, mid-at}
 
 module _ (dx dy : Offset) (w h : ℕ) where
   -- one plane's bytes, moved
   plane-at : (bytes : List ℕ) (x y : ℕ) → x < w → y < h → getD (planeShifted dx dy w h bytes) (y * w + x) 0 ≡ shifted dx dy w h (λ i j. lineOf bytes (j * w + i)) x y
   unfolding planeShifted
-  plane-at bytes x y lx ly = rw (getD-build (h * w) _ (y * w + x) (pixel-fits w h x y lx ly), remainder w y x lx, quotient w y x lx)
+  plane-at bytes x y lx ly = plane-built w h (shifted dx dy w h (λ i j. lineOf bytes (j * w + i))) x y lx ly
 
   -- the planes below c are moved, and the others are as they were
   pub record BelowMoved (old new : List ℕ) (c : ℕ) : Type 0 where

@@ -8,10 +8,11 @@ use native.Mathlib.Nat.{add-mul, mul-zero, mul-le-mul-right, mod-lt, div-lt-iff-
 use native.Mathlib.Omega.{arith}
 use lib.ListN.{length}
 use borrow.Author.Tests.{leb-true, leb-false}
-use Rattle.picture.specs.Planes.{Line}
+use Rattle.picture.specs.Build.{build}
+use Rattle.picture.specs.Planes.{Line, Plane}
 use Rattle.picture.proofs.Build.{length-build, getD-build}
 use Rattle.picture.proofs.Tests.{neither}
-use Rattle.picture.proofs.Planes.{pixel-fits}
+use Rattle.picture.proofs.Planes.{remainder, quotient, pixel-fits}
 use Rattle.binary32.specs.declared.Offset.{Offset}
 use Rattle.shift.specs.Shift.{moved, shifted}
 use Rattle.picture.specs.Buffers.{lineOf}
@@ -19,6 +20,10 @@ use Rattle.shift.specs.Bytes.{slid, zeroed, insideKept, planeShifted, On
 use Rattle.shift.proofs.Moved.{from-before, from-inside, from-past, moved-is, moved-as, moved-zeros, moved-out}
 use Rattle.picture.proofs.Build.{build-same}
 use Rattle.shift.proofs.Zeroed.{blank-inside}
+
+-- the bytes of a plane, row by row, are the plane
+pub plane-built : (w h : ℕ) (p : Plane) (x y : ℕ) → x < w → y < h → lineOf (build (h * w) (λ i. p (i % w) (i / w))) (y * w + x) ≡ p x y
+plane-built w h p x y lx ly = rw (getD-build (h * w) _ (y * w + x) (pixel-fits w h x y lx ly), remainder w y x lx, quotient w y x lx)
 
 -- dx columns and dy rows of w bytes, as places along all rows
 abbrev pub flat : ℕ → Offset → Offset → Offset
