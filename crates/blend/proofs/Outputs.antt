@@ -1,11 +1,10 @@
 -- An output of a pass is what stands at four places, blended.
-use mathlib.Core.Path.{_≡_, refl}
+use mathlib.Core.Path.{_≡_}
 use mathlib.Core.Bool.{cond}
 use Prim.Native.Nat.{ℕ, zero, suc, _+_, _-_, _*_, _/_, _%_, _<_}
 use native.Mathlib.Nat.{add-zero}
 use native.Mathlib.Omega.{arith}
 use lib.Dec.{eqb}
-use borrow.Author.Tests.{eq-eqb}
 use Rattle.picture.specs.Planes.{Line}
 use Rattle.picture.specs.declared.EdgeMode.{EdgeMode}
 use Rattle.edges.specs.Edges.{place, sample}
@@ -17,7 +16,7 @@ use Rattle.blend.proofs.Places.{inside}
 -- of the samples
 module _ (mode : EdgeMode) (s : ℕ) (line : Line) where
   -- the sample before x for an even output, the one after it for an odd one
-  pub doubles : (y : ℕ) →
+  doubles : (y : ℕ) →
       let far = sample mode s line (y / 2 + y % 2) (1 - y % 2) in
       let near = sample mode s line (y / 2) 0 in
       mix far near near far ≡ double mode s line y

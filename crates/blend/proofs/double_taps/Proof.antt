@@ -1,6 +1,5 @@
 -- The two places are doubling's samples.
 use mathlib.Core.Path.{_∙_}
-use Prim.Native.Nat.{_+_, _-_, _/_, _%_}
 use native.Mathlib.Omega.{arith}
 use Rattle.picture.proofs.Sizes.{room-is}
 use Rattle.edges.specs.Edges.{Below}
@@ -18,9 +17,7 @@ found c =
     let st = c .before .before in
     let a = st .args in
     let z = st .pre .1 .len-low in
-    let x = a .y / 2 in
-    let odd = a .y % 2 in
-    (placed (a .mode) (a .len) (x + odd) (1 - odd) z (c .before .extend .ensures), placed (a .mode) (a .len) x 0 z (c .extend2 .ensures))
+    (placed (a .mode) (a .len) _ _ z (c .before .extend .ensures), placed (a .mode) (a .len) _ _ z (c .extend2 .ensures))
 
 taps-of-requires : tie.Need-taps-of-requires
 taps-of-requires c κs =

@@ -1,6 +1,5 @@
 -- The four places are halving's samples.
 use mathlib.Core.Path.{_∙_}
-use Prim.Native.Nat.{_+_, _*_}
 use native.Mathlib.Omega.{arith}
 use Rattle.picture.proofs.Sizes.{room-is}
 use Rattle.edges.specs.Edges.{Below}
@@ -19,12 +18,7 @@ found c =
     let st = c .before .before .before .before in
     let a = st .args in
     let z = st .pre .1 .len-low in
-    let at = 2 * a .x in (
-      placed (a .mode) (a .len) at 1 z (c .before .before .before .extend .ensures),
-      placed (a .mode) (a .len) at 0 z (c .before .before .extend2 .ensures),
-      placed (a .mode) (a .len) (at + 1) 0 z (c .before .extend3 .ensures),
-      placed (a .mode) (a .len) (at + 2) 0 z (c .extend4 .ensures),
-    )
+    (placed (a .mode) (a .len) _ _ z (c .before .before .before .extend .ensures), placed (a .mode) (a .len) _ _ z (c .before .before .extend2 .ensures), placed (a .mode) (a .len) _ _ z (c .before .extend3 .ensures), placed (a .mode) (a .len) _ _ z (c .extend4 .ensures))
 
 taps-of-requires : tie.Need-taps-of-requires
 taps-of-requires c κs =

@@ -1,6 +1,6 @@
 -- The outputs so far are a part of the line; each turn joins the next to it.
 use mathlib.Core.Path.{_≡_, refl}
-use Prim.Native.Nat.{_+_, _-_, _*_, _≤_}
+use Prim.Native.Nat.{_+_, _-_, _≤_}
 use native.Mathlib.Omega.{arith}
 use lib.ListN.{length}
 use Rattle.picture.proofs.Sizes.{room-is}

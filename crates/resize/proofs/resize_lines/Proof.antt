@@ -46,10 +46,10 @@ output-taps-requires : tie.Need-output-taps-requires Inv-loop μ-loop
 output-taps-requires c κs = (omega (arith, room-is), line-room c)
 
 sub-output-taps : tie.Need-sub-output-taps Inv-loop μ-loop
-sub-output-taps c = many (c .before .before .before) .some
+sub-output-taps c = omega (arith, many (c .before .before .before) .some)
 
 output-taps-requires-2 : tie.Need-output-taps-requires-2 Inv-loop μ-loop
-output-taps-requires-2 c κs = (omega (arith, many (c .before .before .before) .some, many (c .before .before .before) .high), line-room (c .before))
+output-taps-requires-2 c κs = (omega (arith, many (c .before .before .before), room-is), line-room (c .before))
 
 mul-read : tie.Need-mul-read Inv-loop μ-loop
 mul-read c = omega (arith, room (c .before .before .before .before) 0 (c .before .before .before .before .pre .some))
