@@ -1,14 +1,7 @@
--- Laws of area sums.
+-- Laws of sums and of tables.
 pub mod Sums
-pub mod FourCorners
 pub mod Entries
 pub mod Rows
-pub mod Changes
-pub mod Gains
-pub mod Tables
+pub mod Laid
 pub mod Conditions
 pub mod Settle
-pub mod Examples
-pub mod Taken
-pub mod Determined
-pub mod Promised

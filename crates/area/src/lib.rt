@@ -1,5 +1,3 @@
-// Area sums: a table of 32-bit numbers beside a picture, a box answered from it, and one pixel's change carried into it.
-pub mod boxes;
+// Area sums: a table of 32-bit numbers beside a picture, and its numbers at a corner.
 pub mod builder;
-mod table;
-pub mod updater;
+pub mod table;

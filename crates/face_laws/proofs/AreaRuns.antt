@@ -6,7 +6,9 @@ use contract.Lifetimes.{Lfts}
 use borrow.Fn.Kinds.{Dens}
 use denote.Ref.{now}
 use Rattle.picture.specs.Answer.{Answer, answered}
-use Rattle.area.specs.Outcome.{buildOutcome, boxOutcome, updateOutcome}
+use Rattle.area_boxes.specs.Outcome.{boxOutcome}
+use Rattle.area_updates.specs.Outcome.{updateOutcome}
+use Rattle.area.specs.Outcome.{buildOutcome}
 use Rattle.face_laws.proofs.Determined.{Determined}
 use Rattle.face_laws.proofs.Runs.{CanBeMet, SameRuns, same-runs}
 use Rattle.face_sums.proofs.areas.corbelrush_area_box.Reads as area-box

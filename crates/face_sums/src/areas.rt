@@ -1,8 +1,10 @@
 // Area sums for C. The table is an array of words.
-use area::boxes::Boxed;
+use area_boxes::boxes::Boxed;
 ghost use mathlib.Core.Path.{_≡_};
 ghost use Rattle.picture.specs.Answer.{answered};
-ghost use Rattle.area.specs.Outcome.{buildOutcome, boxOutcome, updateOutcome};
+ghost use Rattle.area_boxes.specs.Outcome.{boxOutcome};
+ghost use Rattle.area_updates.specs.Outcome.{updateOutcome};
+ghost use Rattle.area.specs.Outcome.{buildOutcome};
 
 // Builds the table of a picture of w by h pixels, as `build` does.
 #[no_mangle]
@@ -27,7 +29,7 @@ pub extern "C" fn corbelrush_area_box(
     ensures { λ r. ⌜ answered r (now (sum .exit)) ≡ boxOutcome (now (table .entry)) w h x y wide high ⌝ }
 {
     *sum = 0;
-    match area::boxes::box_sum(table, w, h, x, y, wide, high) {
+    match area_boxes::boxes::box_sum(table, w, h, x, y, wide, high) {
         Boxed::Refused(r) => r.number(),
         Boxed::Sum(s) => {
             *sum = s.alphas as u64;
@@ -48,5 +50,5 @@ pub extern "C" fn corbelrush_area_update(
 ) -> u32
     ensures { λ r. ⌜ answered r (now (table .exit)) ≡ updateOutcome (now (table .entry)) w h place old new ⌝ }
 {
-    area::updater::update(table, w, h, place, old, new)
+    area_updates::updater::update(table, w, h, place, old, new)
 }

@@ -8,7 +8,7 @@ use Rattle.picture.specs.Spans.{Span}
 use Rattle.picture.proofs.Spans.{span-none, span-join, span-element, span-at}
 use Rattle.area.specs.Area.{alphaPlane, entry, built}
 use Rattle.area.proofs.Entries.{rows-in, row-ends, corner-is}
-use Rattle.area.proofs.Tables.{rows-laid}
+use Rattle.area.proofs.Laid.{rows-laid}
 use Rattle.area.proofs.builder.build_rows.Statement.{statement}
 use Rattle.area.proofs.builder.build_rows.Tie as tie
 

@@ -1,0 +1,2 @@
+// Area sums: a box answered from a table.
+pub mod boxes;

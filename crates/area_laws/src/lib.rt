@@ -1,0 +1,1 @@
+// What holds of area sums, call after call: laws, no code.

@@ -1,0 +1,3 @@
+-- Laws of changes in a table.
+pub mod Gains
+pub mod Conditions

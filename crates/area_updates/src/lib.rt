@@ -1,0 +1,2 @@
+// Area sums: one pixel's change carried into a table.
+pub mod updater;
