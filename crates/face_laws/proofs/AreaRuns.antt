@@ -11,12 +11,12 @@ use Rattle.area_updates.specs.Outcome.{updateOutcome}
 use Rattle.area.specs.Outcome.{buildOutcome}
 use Rattle.face_laws.proofs.Determined.{Determined}
 use Rattle.face_laws.proofs.Runs.{CanBeMet, SameRuns, same-runs}
-use Rattle.face_sums.proofs.areas.corbelrush_area_box.Reads as area-box
-use Rattle.face_sums.proofs.areas.corbelrush_area_box.Kinds as area-box-kinds
-use Rattle.face_sums.proofs.areas.corbelrush_area_build.Reads as area-build
-use Rattle.face_sums.proofs.areas.corbelrush_area_build.Kinds as area-build-kinds
-use Rattle.face_sums.proofs.areas.corbelrush_area_update.Reads as area-update
-use Rattle.face_sums.proofs.areas.corbelrush_area_update.Kinds as area-update-kinds
+use Rattle.face_areas.proofs.areas.corbelrush_area_box.Reads as area-box
+use Rattle.face_areas.proofs.areas.corbelrush_area_box.Kinds as area-box-kinds
+use Rattle.face_areas.proofs.areas.corbelrush_area_build.Reads as area-build
+use Rattle.face_areas.proofs.areas.corbelrush_area_build.Kinds as area-build-kinds
+use Rattle.face_areas.proofs.areas.corbelrush_area_update.Reads as area-update
+use Rattle.face_areas.proofs.areas.corbelrush_area_update.Kinds as area-update-kinds
 
 -- ---- the table of a picture
 pub area-build-determined : Determined area-build-kinds.ps area-build-kinds.r area-build.Post (λ κs r x. answered r (now (x .1 .1 .1 .0)))

@@ -10,10 +10,10 @@ use Rattle.shares.specs.Outcome.{shareOutcome}
 use Rattle.share_lists.specs.Listing.{PointsLeft, pointsLeft, listOutcome}
 use Rattle.face_laws.proofs.Determined.{Determined}
 use Rattle.face_laws.proofs.Runs.{SameRuns, same-runs, CanBeMet}
-use Rattle.face_sums.proofs.explains.corbelrush_share.Reads as share
-use Rattle.face_sums.proofs.explains.corbelrush_share.Kinds as share-kinds
-use Rattle.face_sums.proofs.explains.corbelrush_shares.Reads as shares
-use Rattle.face_sums.proofs.explains.corbelrush_shares.Kinds as shares-kinds
+use Rattle.face_shares.proofs.explains.corbelrush_share.Reads as share
+use Rattle.face_shares.proofs.explains.corbelrush_share.Kinds as share-kinds
+use Rattle.face_shares.proofs.explains.corbelrush_shares.Reads as shares
+use Rattle.face_shares.proofs.explains.corbelrush_shares.Kinds as shares-kinds
 
 -- ---- one share
 pub share-determined : Determined share-kinds.ps share-kinds.r share.Post (λ κs r x. answered r (now (x .1 .1 .1 .1 .1 .1 .1 .0)))

@@ -1,5 +1,5 @@
 // The functions that are lent a table of words.
-use face_sums::areas;
+use face_areas::areas;
 use vector_buffers::bounds;
 use vector_buffers::buffers;
 use vector_parts::parts;

@@ -1,5 +1,5 @@
 // The functions that are lent numerators and no picture: a share, and a list of points.
-use face_sums::explains;
+use face_shares::explains;
 use vector_parts::parts;
 use vector_parts::replies;
 use vector_parts::replies::Reply;

@@ -1,7 +1,7 @@
 -- Each case of the answer is its number, with the sum behind the pointer.
 use borrow.Author.Needs.{needs}
-use Rattle.face_sums.proofs.areas.corbelrush_area_box.Statement.{statement}
-use Rattle.face_sums.proofs.areas.corbelrush_area_box.Tie as tie
+use Rattle.face_areas.proofs.areas.corbelrush_area_box.Statement.{statement}
+use Rattle.face_areas.proofs.areas.corbelrush_area_box.Tie as tie
 
 returns : tie.Need-returns
 returns c =

@@ -1,7 +1,7 @@
 -- Each case of the answer is its number, with the number of points behind the pointer.
 use borrow.Author.Needs.{needs}
-use Rattle.face_sums.proofs.explains.corbelrush_shares.Statement.{statement}
-use Rattle.face_sums.proofs.explains.corbelrush_shares.Tie as tie
+use Rattle.face_shares.proofs.explains.corbelrush_shares.Statement.{statement}
+use Rattle.face_shares.proofs.explains.corbelrush_shares.Tie as tie
 
 returns : tie.Need-returns
 returns c =

@@ -1,3 +1,0 @@
-// Area sums and shares as C and C++ link them: each function is one call of its entry; include/corbelrush.h declares them.
-pub mod areas;
-pub mod explains;
