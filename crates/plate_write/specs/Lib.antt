@@ -2,4 +2,3 @@
 pub mod Added
 pub mod Outcome
 pub mod Steps
-pub mod ReadsBack

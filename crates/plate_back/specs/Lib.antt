@@ -1,0 +1,2 @@
+-- What is read back of a plate that was added to.
+pub mod ReadsBack
