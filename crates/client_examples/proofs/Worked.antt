@@ -33,6 +33,7 @@ use Rattle.grading.specs.Premultiplied.{foundAt, firstFrom, scanned, checked}
 use Rattle.grading.specs.Sampling.{viewRefusal, sampled}
 use Rattle.plate_format.specs.Format.{u16At, u32At, newest, knownTo, maxCount, labelled, entrySize, largestSide, larger, largestWhole, labelAt, entryOf, bodyOffset, wrongSidesOf, wrongUnit, obeys, allBelow, filled, isPlateTo}
 use Rattle.plate.specs.Lookup.{lookedUpTo, lookedUp, beside, labelledUpTo, labelledUp}
+use Rattle.body_blur.specs.Blur.{plateBlur}
 use Rattle.job.specs.Job as job
 
 -- the shadow alone of one pixel of alpha 255: red, half opaque, where the pixel is
@@ -77,6 +78,6 @@ no-label : labelledUp file 0 ≡ answered 0 (beside 0 0)
 unfolding labelledUpTo settled firstOf firstElse isPlateTo filled allBelow obeys wrongUnit wrongSidesOf bodyOffset entryOf labelAt larger largestWhole largestSide entrySize labelled maxCount knownTo newest u32At u16At zeroOrAbove wrongLength maxSide
 no-label = refl
 
-one-body : job.jobOutcome job.plateBlur file (7 ∷ 7 ∷ 7 ∷ 7 ∷ 7 ∷ []) ≡ answered 0 (lent file (0 ∷ 0 ∷ 0 ∷ 0 ∷ 7 ∷ []))
-unfolding job.jobOutcomeTo job.jobbedBelow job.longestBelow job.plateBlur settled firstOf firstElse isPlateTo filled allBelow obeys wrongUnit wrongSidesOf bodyOffset entryOf labelAt larger largestWhole largestSide entrySize labelled maxCount knownTo newest u32At u16At zeroOrAbove wrongLength maxSide cleared laid blurredOrKept blurred painted chan build blur halve double convolve sample place taps tap toByte roundHalfUp lt add mul ofInt
+one-body : job.jobOutcome plateBlur file (7 ∷ 7 ∷ 7 ∷ 7 ∷ 7 ∷ []) ≡ answered 0 (lent file (0 ∷ 0 ∷ 0 ∷ 0 ∷ 7 ∷ []))
+unfolding job.jobOutcomeTo job.jobbedBelow job.longestBelow plateBlur settled firstOf firstElse isPlateTo filled allBelow obeys wrongUnit wrongSidesOf bodyOffset entryOf labelAt larger largestWhole largestSide entrySize labelled maxCount knownTo newest u32At u16At zeroOrAbove wrongLength maxSide cleared laid blurredOrKept blurred painted chan build blur halve double convolve sample place taps tap toByte roundHalfUp lt add mul ofInt
 one-body = refl

@@ -7,7 +7,8 @@ ghost use mathlib.Core.Path.{_≡_};
 ghost use Rattle.picture.specs.Answer.{answered, lent};
 ghost use Rattle.plate.specs.Lookup.{lookedUp, beside, labelledUp};
 ghost use Rattle.plate_write.specs.Outcome.{grown, startOutcome, addOutcome};
-ghost use Rattle.job.specs.Job.{plateBlur, jobOutcome};
+ghost use Rattle.body_blur.specs.Blur.{plateBlur};
+ghost use Rattle.job.specs.Job.{jobOutcome};
 ghost use Rattle.face_files.specs.Words.{pictureIn};
 
 // The sides of the picture of that index, and where it lies.

@@ -19,6 +19,7 @@ use Rattle.grading.specs.Sampling.{viewRefusal, sampled}
 use Rattle.spread.specs.Spread.{reported}
 use Rattle.plate.specs.Lookup.{Picture, lookedUp, Beside, beside, labelledUp}
 use Rattle.plate_write.specs.Outcome.{Grown, grown, startOutcome, addOutcome}
+use Rattle.body_blur.specs.Blur.{plateBlur}
 use Rattle.job.specs.Job as job
 use Rattle.face_filters.specs.Words.{recipe, flag}
 use Rattle.face_grades.specs.Words.{reworded, Pointers, pointers, findingIn}
@@ -261,7 +262,7 @@ abbrev jobGiven : (κs : Lfts 2) → Dens κs plate-job-kinds.ps → JobGiven
 jobGiven κs a = (now (a .0), now (a .1 .0))
 
 abbrev jobLeaves : JobGiven → Answer Lent
-jobLeaves g = job.jobOutcome job.plateBlur (g .0) (g .1)
+jobLeaves g = job.jobOutcome plateBlur (g .0) (g .1)
 
 pub plate-job-runs : SameRuns plate-job-kinds.ps plate-job-kinds.r plate-job.Post jobGiven (λ κs r x. answered r (lent (now (x .0)) (now (x .1 .0))))
 plate-job-runs = same-runs plate-job-kinds.ps plate-job-kinds.r plate-job.Post jobGiven _ jobLeaves (λ κs a v x h. h)

@@ -7,21 +7,18 @@ use native.Mathlib.Numerals.{add-one}
 use native.Mathlib.Omega.{arith}
 use lib.ListN.{length, getD, take, drop, length-append, length-drop, take-append-drop, List·getD-append}
 use lib.Seq.{length-take-le, getD-take, take-at, drop-at, drop-drop, drop-length}
-use Rattle.picture.specs.Planes.{bytesOf}
 use Rattle.plate_format.specs.Format.{count, entryAt, entryOf, bodyOffset, isPlate}
 use Rattle.plate_format.specs.Needs.{Tabled}
 use Rattle.plate_format.proofs.Table.{same-count, same-entry-at, same-entry}
 use Rattle.plate_format.proofs.Rules.{rules, offset-up, plate-tabled, plate-entry}
-use Rattle.job.specs.Job.{BodyBlur, bodyOf, blurredBody, jobbedBelow, jobbed}
-use Rattle.job.specs.Steps.{withBody}
+use Rattle.body_blur.specs.Blur.{BodyBlur}
+use Rattle.job.specs.Job.{bodyOf, blurredBody, jobbedBelow, jobbed}
+use Rattle.body_blur.specs.Steps.{withBody}
+use Rattle.body_blur.proofs.Fixed.{Keeps}
 
 -- the file once the bodies below i are blurred
 abbrev pub after : BodyBlur → List ℕ → ℕ → List ℕ
 after blur file i = jobbedBelow blur file i ++ drop (bodyOffset file i) file
-
--- a blur that makes the bytes of a picture of that size
-abbrev pub Keeps : BodyBlur → Type 0
-Keeps blur = (w h : ℕ) (body : List ℕ) → length (blur w h body) ≡ bytesOf w h
 
 module _ (blur : BodyBlur) (keeps : Keeps blur) (file : List ℕ) (plate : isPlate file ≡ true) where
   table-fits : bodyOffset file 0 ≤ length file

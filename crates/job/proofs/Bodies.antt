@@ -20,9 +20,10 @@ use Rattle.gaussian_blur.specs.Outcome.{blurredOrKept}
 use Rattle.plate_format.specs.Format.{count, entryAt, entryOf, bodyOffset, isPlate}
 use Rattle.plate_format.specs.declared.Entry.{Entry}
 use Rattle.plate_format.proofs.Rules.{rules, plate-tabled, plate-entry}
-use Rattle.job.specs.Job.{plateWeights, plateBlur, bodyOf, blurredBody, jobbedBelow, jobbed, jobOutcomeTo, jobOutcome}
+use Rattle.body_blur.specs.Blur.{plateWeights, plateBlur}
+use Rattle.job.specs.Job.{bodyOf, blurredBody, jobbedBelow, jobbed, jobOutcomeTo, jobOutcome}
 use Rattle.job.proofs.After.{length-jobbed}
-use Rattle.job.proofs.Fixed.{keeps}
+use Rattle.body_blur.proofs.Fixed.{keeps}
 
 -- the stretch of a file that an entry names: from its offset on, of its length
 abbrev pub named : Entry → List ℕ → List ℕ

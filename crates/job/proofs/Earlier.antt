@@ -6,7 +6,8 @@ use Rattle.picture.specs.Answer.{answered, lent, settled}
 use Rattle.picture.specs.Refusal.{firstElse, firstOf}
 use Rattle.plate_format.specs.Format.{version}
 use Rattle.plate_format.proofs.Earlier.{newer}
-use Rattle.job.specs.Job.{BodyBlur, jobOutcomeTo}
+use Rattle.body_blur.specs.Blur.{BodyBlur}
+use Rattle.job.specs.Job.{jobOutcomeTo}
 
 pub earlier : (r : ℕ) (blur : BodyBlur) (file scratch : List ℕ) → r < version file → jobOutcomeTo r blur file scratch ≡ answered 10 (lent file scratch)
 unfolding jobOutcomeTo firstOf firstElse settled

@@ -12,9 +12,10 @@ use borrow.Author.Tests.{eqb-true, eqb-false}
 use Rattle.picture.specs.Answer.{answered, Lent, lent}
 use Rattle.picture.proofs.Settled.{read}
 use Rattle.plate_format.specs.Format.{count, entryOf, isPlate}
-use Rattle.job.specs.Job.{plateBlur, jobbed, jobOutcomeTo, jobOutcome}
+use Rattle.body_blur.specs.Blur.{plateBlur}
+use Rattle.job.specs.Job.{jobbed, jobOutcomeTo, jobOutcome}
 use Rattle.job.proofs.After.{after-all, entry-kept}
-use Rattle.job.proofs.Fixed.{keeps}
+use Rattle.body_blur.proofs.Fixed.{keeps}
 use Rattle.job.proofs.plate_job.Reads as job
 use Rattle.job.proofs.plate_job.Kinds as kinds
 

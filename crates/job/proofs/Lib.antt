@@ -6,7 +6,5 @@ pub mod Labels
 pub mod Cleared
 pub mod After
 pub mod Turns
-pub mod Fixed
-pub mod Body
 pub mod Bodies
 pub mod Earlier

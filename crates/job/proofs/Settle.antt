@@ -10,7 +10,8 @@ use Rattle.picture.specs.Planes.{cleared}
 use Rattle.picture.specs.Answer.{Answer, answered, Lent, lent, settled}
 use Rattle.picture.specs.Refusal.{firstElse, firstOf}
 use Rattle.plate_format.specs.Format.{count, isPlate}
-use Rattle.job.specs.Job.{BodyBlur, longestBody, jobbed, jobOutcomeTo, jobOutcome}
+use Rattle.body_blur.specs.Blur.{BodyBlur}
+use Rattle.job.specs.Job.{longestBody, jobbed, jobOutcomeTo, jobOutcome}
 use Rattle.job.proofs.Lengths.{longest-inside}
 
 module _ (blur : BodyBlur) (file scratch : List ℕ) where

@@ -10,11 +10,13 @@ use Rattle.picture.specs.Planes.{cleared, laid}
 use Rattle.picture.specs.Answer.{lent}
 use Rattle.plate_format.specs.Format.{count, entryOf, bodyOffset, isPlate}
 use Rattle.plate_format.proofs.Rules.{plate-entry}
-use Rattle.job.specs.Job.{BodyBlur, longestBelow, longestBody, jobbed}
-use Rattle.job.specs.Steps.{BodyReady, Blurred}
+use Rattle.body_blur.specs.Blur.{BodyBlur}
+use Rattle.job.specs.Job.{longestBelow, longestBody, jobbed}
+use Rattle.body_blur.specs.Steps.{BodyReady, Blurred}
 use Rattle.job.proofs.Lengths.{longest-up}
 use Rattle.job.proofs.Cleared.{length-cleared, cleared-twice}
-use Rattle.job.proofs.After.{after, Keeps, after-none, after-all, after-more, length-after, count-kept, entry-kept, table-kept}
+use Rattle.body_blur.proofs.Fixed.{Keeps}
+use Rattle.job.proofs.After.{after, after-none, after-all, after-more, length-after, count-kept, entry-kept, table-kept}
 
 -- the state of the loop before body i of a plate that fits the scratch: the body's start, the file and the scratch
 pub record Turn (blur : BodyBlur) (file scratch : List ℕ) (i start : ℕ) (now work : List ℕ) : Type 0 where

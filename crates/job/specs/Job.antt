@@ -1,30 +1,14 @@
 -- The job: each body of a plate is blurred where it lies.
-use mathlib.Core.Bool.{false, not}
+use mathlib.Core.Bool.{not}
 use mathlib.Core.List.{List, [], _∷_, _++_}
 use Prim.Native.Nat.{ℕ, zero, suc, max}
 use lib.Dec.{ltb}
-use lib.IntN.{negsuc}
-use lib.Ieee.{Float, fin}
 use lib.ListN.{length, take, drop}
 use Rattle.picture.specs.Planes.{cleared}
 use Rattle.picture.specs.Answer.{Answer, Lent, lent, settled}
 use Rattle.picture.specs.Refusal.{Check, check, firstOf}
-use Rattle.picture.specs.declared.EdgeMode.the-variants.{Duplicate}
-use Rattle.binary32.specs.Ranges.{one32}
-use Rattle.gaussian_blur.specs.Outcome.{blurredOrKept}
 use Rattle.plate_format.specs.Format.{count, newest, entryOf, bodyOffset, isPlateTo}
-
--- the blur of a body: its width, its height, its bytes, and the bytes it becomes
-abbrev pub BodyBlur : Type 0
-BodyBlur = ℕ → ℕ → List ℕ → List ℕ
-
--- the weights of the job's blur: 1/4, 1/2, 1/4
-abbrev pub plateWeights : List Float
-plateWeights = fin false 1 (negsuc 1) ∷ fin false 1 (negsuc 0) ∷ fin false 1 (negsuc 1) ∷ []
-
--- the blur of the job: those weights, n = 1, Duplicate, strength 1
-unfoldable pub plateBlur : BodyBlur
-plateBlur w h body = blurredOrKept Duplicate plateWeights 1 one32 w h body
+use Rattle.body_blur.specs.Blur.{BodyBlur}
 
 -- body i: the stretch of the file that entry i names
 abbrev pub bodyOf : List ℕ → ℕ → List ℕ

@@ -1,3 +1,2 @@
 -- The definitions that contracts cite of the job.
 pub mod Job
-pub mod Steps

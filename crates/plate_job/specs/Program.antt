@@ -6,7 +6,8 @@ use lib.Dec.{leb}
 use lib.ListN.{length}
 use Rattle.picture.specs.Answer.{Answer, settled}
 use Rattle.plate_format.specs.Format.{isPlate}
-use Rattle.job.specs.Job.{plateBlur, jobbed}
+use Rattle.body_blur.specs.Blur.{plateBlur}
+use Rattle.job.specs.Job.{jobbed}
 
 -- the most bytes that the program takes
 abbrev pub longestInput : ℕ

@@ -5,8 +5,8 @@ use native.Mathlib.Omega.{arith}
 use borrow.Author.Needs.{needs}
 use Rattle.plate_format.specs.Format.{count}
 use Rattle.plate_format.proofs.Rules.{plate-tabled}
-use Rattle.job.specs.Job.{plateBlur}
-use Rattle.job.proofs.Fixed.{keeps}
+use Rattle.body_blur.specs.Blur.{plateBlur}
+use Rattle.body_blur.proofs.Fixed.{keeps}
 use Rattle.job.proofs.Turns.{Turn, turn-none, turn-ready, turn-more, turn-lengths, turn-all}
 use Rattle.job.proofs.blur_bodies.Statement.{statement}
 use Rattle.job.proofs.blur_bodies.Tie as tie

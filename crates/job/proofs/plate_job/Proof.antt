@@ -8,7 +8,8 @@ use borrow.Author.Tests.{not-true, not-false}
 use lib.ListN.{length}
 use Rattle.plate_format.specs.Format.{isPlate}
 use Rattle.plate_format.proofs.Rules.{plate-tabled}
-use Rattle.job.specs.Job.{longestBody, plateBlur}
+use Rattle.body_blur.specs.Blur.{plateBlur}
+use Rattle.job.specs.Job.{longestBody}
 use Rattle.job.proofs.Settle.{job-broken, job-short, job-done}
 use Rattle.job.proofs.plate_job.Statement.{statement}
 use Rattle.job.proofs.plate_job.Tie as tie

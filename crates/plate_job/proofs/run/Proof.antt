@@ -4,7 +4,7 @@ use borrow.Author.Needs.{needs}
 use borrow.Author.Tests.{lt-leb, le-leb}
 use lib.ListN.{length}
 use Rattle.picture.specs.Answer.{settled}
-use Rattle.job.specs.Job.{plateBlur}
+use Rattle.body_blur.specs.Blur.{plateBlur}
 use Rattle.job.proofs.Settle.{job-roomy}
 use Rattle.plate_job.specs.Program.{longestInput, answerTo}
 use Rattle.plate_job.proofs.run.Statement.{statement}

@@ -10,8 +10,8 @@ use Rattle.picture.specs.Planes.{bytesOf, cleared}
 use Rattle.picture.specs.Answer.{Lent, lent}
 use Rattle.plate_format.specs.Format.{entryOf}
 use Rattle.plate_format.specs.declared.Entry.{Entry}
-use Rattle.job.specs.Job.{BodyBlur}
-use Rattle.job.specs.Steps.{BodyFits, withBody, BodyReady, Blurred}
+use Rattle.body_blur.specs.Blur.{BodyBlur}
+use Rattle.body_blur.specs.Steps.{BodyFits, withBody, BodyReady, Blurred}
 
 module _ (file : List ℕ) (i start : ℕ) (scratch : List ℕ) (ready : BodyReady file i start scratch) (e : Entry) (is : e ≡ entryOf file i) where
   pub inside : start + e .length ≤ length file

@@ -8,7 +8,7 @@ use Rattle.picture.specs.Planes.{bytesOf, cleared}
 use Rattle.picture.specs.Refusal.{wrongSides}
 use Rattle.plate_format.specs.Format.{count, entryOf}
 use Rattle.plate_format.specs.Needs.{Tabled}
-use Rattle.job.specs.Job.{BodyBlur}
+use Rattle.body_blur.specs.Blur.{BodyBlur}
 
 -- a file with other bytes in the place of the len bytes from start on
 abbrev pub withBody : List ℕ → ℕ → ℕ → List ℕ → List ℕ

@@ -1,9 +1,9 @@
 -- The blur's own promise, at the job's weights, n, strength and edge rule, where nothing is refused.
 use borrow.Author.Needs.{needs}
 use lib.Ieee.{ofBits}
-use Rattle.job.proofs.Fixed.{fixed}
-use Rattle.job.proofs.blur_part.Statement.{statement}
-use Rattle.job.proofs.blur_part.Tie as tie
+use Rattle.body_blur.proofs.Fixed.{fixed}
+use Rattle.body_blur.proofs.blur_part.Statement.{statement}
+use Rattle.body_blur.proofs.blur_part.Tie as tie
 
 returns : tie.Need-returns
 unfolding ofBits

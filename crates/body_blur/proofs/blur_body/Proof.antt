@@ -1,9 +1,9 @@
 -- The part lent to the blur is the body, and comes back in its place.
 use borrow.Author.Needs.{needs}
-use Rattle.job.specs.Job.{plateBlur}
-use Rattle.job.proofs.Body.{inside, part-fits, part-back}
-use Rattle.job.proofs.blur_body.Statement.{statement}
-use Rattle.job.proofs.blur_body.Tie as tie
+use Rattle.body_blur.specs.Blur.{plateBlur}
+use Rattle.body_blur.proofs.Body.{inside, part-fits, part-back}
+use Rattle.body_blur.proofs.blur_body.Statement.{statement}
+use Rattle.body_blur.proofs.blur_body.Tie as tie
 
 part-blur-part-end : tie.Need-part-blur-part-end
 part-blur-part-end c = let st = c .before .before .before .before .before in inside _ _ _ _ (st .pre) _ (c .before .read-entry .ensures)

@@ -14,9 +14,12 @@ use Rattle.picture.proofs.Planes.{length-painted}
 use Rattle.binary32.specs.Ranges.{one32, finite, outsideUnit, anyOf, anyOutside}
 use Rattle.gaussian_blur.specs.Blurred.{blurredPlane, blurred}
 use Rattle.gaussian_blur.specs.Outcome.{blurChecks, blurredOrKept, blurOutcome}
-use Rattle.job.specs.Job.{plateWeights, plateBlur}
-use Rattle.job.specs.Steps.{BodyFits}
-use Rattle.job.proofs.After.{Keeps}
+use Rattle.body_blur.specs.Blur.{BodyBlur, plateWeights, plateBlur}
+use Rattle.body_blur.specs.Steps.{BodyFits}
+
+-- a blur that makes the bytes of a picture of that size
+abbrev pub Keeps : BodyBlur → Type 0
+Keeps blur = (w h : ℕ) (body : List ℕ) → length (blur w h body) ≡ bytesOf w h
 
 pub keeps : Keeps plateBlur
 unfolding plateBlur blurredOrKept blurred lt

@@ -1,0 +1,3 @@
+-- Laws of one body's blur.
+pub mod Fixed
+pub mod Body
