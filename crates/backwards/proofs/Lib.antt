@@ -1,5 +1,2 @@
--- Laws of rows, of taps, and of steps backwards.
-pub mod Worth
-pub mod Taken
-pub mod Carried
+-- Laws of lines worked out backwards.
 pub mod Lines

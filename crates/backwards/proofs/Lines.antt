@@ -17,9 +17,9 @@ use Rattle.picture.proofs.Spans.{le-or-lt}
 use Rattle.exact_blur.specs.Exact.{exactHalve, exactDouble, exactConvolve}
 use Rattle.share_laws.specs.Share.{unit, lineBlur, exactLine, axisScale, axisShare}
 use Rattle.share_laws.proofs.Flat.{scale-more, double-most, line-most}
-use Rattle.backwards.specs.Worth.{worthOf, total, Carried, Blank}
-use Rattle.backwards.specs.Steps.{LightKernel}
-use Rattle.backwards.proofs.Worth.{worth-blank, worth-unit, worth-most, worth-more}
+use Rattle.back_passes.specs.Worth.{worthOf, total, Carried, Blank}
+use Rattle.back_passes.specs.Steps.{LightKernel}
+use Rattle.back_passes.proofs.Worth.{worth-blank, worth-unit, worth-most, worth-more}
 
 -- ---- rows of zeros
 pub blank-replicate : (n : ℕ) → Blank (replicate n 0)

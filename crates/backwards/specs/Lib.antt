@@ -1,3 +1,2 @@
--- The definitions that contracts cite of rows of numbers, and of passes worked out backwards.
-pub mod Worth
-pub mod Steps
+-- The definitions that contracts cite of lines worked out backwards.
+pub mod Needs

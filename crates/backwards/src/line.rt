@@ -1,15 +1,16 @@
 // The exact blur along one line, worked out backwards, level by level.
-use crate::back::PassKind;
-use crate::back::carry_pass;
-use crate::rows::clear_row;
 use crate::side::LevelSide;
+use back_passes::back::PassKind;
+use back_passes::back::carry_pass;
+use back_passes::rows::clear_row;
 use picture::EdgeMode;
 ghost use mathlib.Core.Path.{_≡_};
 ghost use lib.ListN.{length};
 ghost use Rattle.picture.specs.Build.{build};
 ghost use Rattle.share_laws.specs.Share.{exactLine, axisShare};
-ghost use Rattle.backwards.specs.Worth.{Carried, Blank};
-ghost use Rattle.backwards.specs.Steps.{exactPass, PassReady, LineReady, AxisReady};
+ghost use Rattle.back_passes.specs.Worth.{Carried, Blank};
+ghost use Rattle.backwards.specs.Needs.{LineReady, AxisReady};
+ghost use Rattle.back_passes.specs.Steps.{exactPass, PassReady};
 
 // A pass backwards into a row of zeros; the outputs are then 0.
 fn move_back(

@@ -11,7 +11,7 @@ use lib.ListN.{length, getD, set, drop, length-append, length-drop}
 use lib.Seq.{set-append-seam, drop-cons}
 use Rattle.picture.specs.Buffers.{lineOf}
 use Rattle.mending.specs.Changes.{laidEntries}
-use Rattle.backwards.specs.Worth.{NextNonzero}
+use Rattle.back_passes.specs.Worth.{NextNonzero}
 use Rattle.points.specs.Points.{point, pointsBelow}
 
 -- a point more, or none

@@ -9,7 +9,7 @@ use lib.ListN.{length, getD, set, length-append, length-set, List·getD-eq-defau
 use Rattle.picture.proofs.Planes.{pixel-fits}
 use Rattle.picture.proofs.Sizes.{room-is}
 use Rattle.mending.specs.Changes.{laidEntries}
-use Rattle.backwards.specs.Worth.{NextNonzero}
+use Rattle.back_passes.specs.Worth.{NextNonzero}
 use Rattle.points.specs.Points.{point, pointsBelow, productAt}
 use Rattle.points.specs.Needs.{RowAsked}
 use Rattle.points.proofs.Points.{points-one, points-skip, count-up, laid-more, laid-room}

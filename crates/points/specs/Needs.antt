@@ -4,7 +4,7 @@ use mathlib.Core.List.{List}
 use Prim.Native.Nat.{ℕ, _*_, _≤_, _<_}
 use lib.ListN.{length, getD}
 use Rattle.picture.specs.Sizes.{sideRoom}
-use Rattle.backwards.specs.Worth.{NextNonzero}
+use Rattle.back_passes.specs.Worth.{NextNonzero}
 use Rattle.points.specs.Points.{pointsBelow, productAt}
 
 -- from element r on a row holds nothing

@@ -1,5 +1,5 @@
 // The points of an output: the places with a share, listed row by row from the shares of the two axes.
-use backwards::next_nonzero;
+use back_passes::rows::next_nonzero;
 ghost use mathlib.Core.Path.{_≡_};
 ghost use mathlib.Core.List.{List};
 ghost use Prim.Native.Nat.{ℕ, _+_, _*_};

@@ -3,8 +3,8 @@ use mathlib.Core.List.{List}
 use Prim.Native.Nat.{ℕ, _*_, _≤_, _<_}
 use lib.ListN.{length}
 use Rattle.picture.specs.Sizes.{maxSide, Sides}
-use Rattle.backwards.specs.Worth.{Blank}
-use Rattle.backwards.specs.Steps.{LightKernel}
+use Rattle.back_passes.specs.Worth.{Blank}
+use Rattle.back_passes.specs.Steps.{LightKernel}
 
 -- output o along an axis of s pixels
 pub record AxisAsked (s n : ℕ) (numerators : List ℕ) (o : ℕ) : Type 0 where

@@ -5,7 +5,7 @@ ghost use mathlib.Core.Path.{_≡_};
 ghost use lib.ListN.{take};
 ghost use Rattle.picture.specs.Build.{build};
 ghost use Rattle.share_laws.specs.Share.{axisShare};
-ghost use Rattle.backwards.specs.Worth.{Blank};
+ghost use Rattle.back_passes.specs.Worth.{Blank};
 ghost use Rattle.share_checks.specs.Needs.{AxisAsked, RowReady};
 
 // The shares of all inputs in output o, in the first elements of a row of zeros. The work row is zero before and after.

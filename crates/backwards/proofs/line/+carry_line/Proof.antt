@@ -11,8 +11,8 @@ use lib.Seq.{length-take-le, length-front, take-at}
 use Rattle.picture.specs.Sizes.{half}
 use Rattle.exact_blur.specs.Exact.{exactHalve, exactDouble, exactConvolve}
 use Rattle.share_laws.specs.Share.{exactLine, axisScale}
-use Rattle.backwards.specs.Worth.{total, Carried, Blank}
-use Rattle.backwards.proofs.Worth.{total-blank}
+use Rattle.back_passes.specs.Worth.{total, Carried, Blank}
+use Rattle.back_passes.proofs.Worth.{total-blank}
 use Rattle.backwards.proofs.Lines.{blank-take, blank-again, line-none, line-step, down-total, through-total, down-room, through-room, up-room}
 use Rattle.backwards.proofs.line.carry_line.Reads as carry-line
 use Rattle.backwards.proofs.line.carry_line.Kinds as kinds

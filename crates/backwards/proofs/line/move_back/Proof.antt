@@ -5,9 +5,9 @@ use Prim.Native.Nat.{ℕ, _+_}
 use native.Mathlib.Nat.{zero-add}
 use borrow.Author.Needs.{needs}
 use lib.ListN.{length}
-use Rattle.backwards.specs.Worth.{worthOf, Blank}
-use Rattle.backwards.specs.Steps.{exactPass}
-use Rattle.backwards.proofs.Worth.{worth-blank}
+use Rattle.back_passes.specs.Worth.{worthOf, Blank}
+use Rattle.back_passes.specs.Steps.{exactPass}
+use Rattle.back_passes.proofs.Worth.{worth-blank}
 use Rattle.backwards.proofs.Lines.{blank-replicate}
 use Rattle.backwards.proofs.line.move_back.Statement.{statement}
 use Rattle.backwards.proofs.line.move_back.Tie as tie

@@ -2,7 +2,7 @@
 ghost use mathlib.Core.Path.{_≡_};
 ghost use Prim.Native.Nat.{_+_, _*_, _≤_, _<_, _^_};
 ghost use lib.ListN.{length, replicate};
-ghost use Rattle.backwards.specs.Worth.{total, Gained, NextNonzero};
+ghost use Rattle.back_passes.specs.Worth.{total, Gained, NextNonzero};
 
 // Adds to what element i is worth.
 pub fn add(row: &mut [u32], i: usize, more: u32)

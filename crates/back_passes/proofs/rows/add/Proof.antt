@@ -2,9 +2,9 @@
 use native.Mathlib.Omega.{arith}
 use borrow.Author.Needs.{needs}
 use denote.Ref.{now}
-use Rattle.backwards.proofs.Worth.{element-le, worth-more}
-use Rattle.backwards.proofs.rows.add.Statement.{statement}
-use Rattle.backwards.proofs.rows.add.Tie as tie
+use Rattle.back_passes.proofs.Worth.{element-le, worth-more}
+use Rattle.back_passes.proofs.rows.add.Statement.{statement}
+use Rattle.back_passes.proofs.rows.add.Tie as tie
 
 add-row : tie.Need-add-row
 add-row c = let s = c .before in omega (arith, element-le (now (s .args .row)) (s .args .i) (s .pre .0), s .pre .1)

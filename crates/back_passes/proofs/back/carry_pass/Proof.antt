@@ -3,11 +3,11 @@ use mathlib.Core.Path.{_≡_, refl, _∙_, subst}
 use Prim.Native.Nat.{ℕ, _-_, _*_, _≤_}
 use native.Mathlib.Omega.{arith}
 use lib.ListN.{length, getD}
-use Rattle.backwards.specs.Worth.{Gained}
-use Rattle.backwards.specs.Steps.{exactPass}
-use Rattle.backwards.proofs.Carried.{carriedTo, carried-none, carried-more, carried-room, carried-all}
-use Rattle.backwards.proofs.back.carry_pass.Statement.{statement}
-use Rattle.backwards.proofs.back.carry_pass.Tie as tie
+use Rattle.back_passes.specs.Worth.{Gained}
+use Rattle.back_passes.specs.Steps.{exactPass}
+use Rattle.back_passes.proofs.Carried.{carriedTo, carried-none, carried-more, carried-room, carried-all}
+use Rattle.back_passes.proofs.back.carry_pass.Statement.{statement}
+use Rattle.back_passes.proofs.back.carry_pass.Tie as tie
 
 abbrev Inv-loop : tie.InvT-loop
 Inv-loop outputs row₀ kind numerators mode x₀ row x =

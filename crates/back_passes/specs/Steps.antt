@@ -1,5 +1,4 @@
 -- The passes of the exact blur by their kind, as taps; and what each step backwards needs, so that no sum passes 32 bits.
-use mathlib.Core.Path.{_≡_}
 use mathlib.Core.List.{List}
 use Prim.Native.Nat.{ℕ, _+_, _*_, _^_, _≤_, _<_}
 use lib.ListN.{length, getD}
@@ -11,10 +10,9 @@ use Rattle.binary32.specs.Grid.{sum}
 use Rattle.binary32.specs.Taps.{sumTo}
 use Rattle.passes.specs.Passes.{Pass}
 use Rattle.exact_blur.specs.Exact.{exactHalve, exactDouble, exactConvolve}
-use Rattle.share_laws.specs.Share.{axisScale}
-use Rattle.backwards.specs.Worth.{total, Blank}
-use Rattle.backwards.specs.declared.back.PassKind.{PassKind}
-use Rattle.backwards.specs.declared.back.PassKind.the-variants.{Halve, Double, Convolve}
+use Rattle.back_passes.specs.Worth.{total}
+use Rattle.back_passes.specs.declared.back.PassKind.{PassKind}
+use Rattle.back_passes.specs.declared.back.PassKind.the-variants.{Halve, Double, Convolve}
 
 -- the first m taps from the coordinate c - d on, tap j in weight j
 abbrev pub tapsTo : EdgeMode → List ℕ → ℕ → Line → ℕ → ℕ → ℕ → ℕ
@@ -66,24 +64,3 @@ pub record PassReady (kind : PassKind) (outputs row numerators : List ℕ) : Typ
   pub kernel : LightKernel numerators
   pub far : length outputs ≤ sideRoom
   pub room : total row + gain kind * total outputs < 2 ^ 32
-
--- all outputs of the blur along a line of s elements
-pub record LineReady (outputs row : List ℕ) (s n : ℕ) (numerators : List ℕ) : Type 0 where
-  pub low : 1 ≤ s
-  pub high : s ≤ sideRoom
-  pub outputs-is : length outputs ≡ s
-  pub row-is : length row ≡ s
-  pub blank : Blank row
-  pub kernel : LightKernel numerators
-  pub room : axisScale n * total outputs < 2 ^ 32
-
--- one output of the blur, with at most 3 decimations
-pub record AxisReady (work row : List ℕ) (s n : ℕ) (numerators : List ℕ) (o : ℕ) : Type 0 where
-  pub inside : o < s
-  pub high : s ≤ sideRoom
-  pub shallow : n ≤ 3
-  pub work-is : length work ≡ s
-  pub row-is : length row ≡ s
-  pub work-blank : Blank work
-  pub row-blank : Blank row
-  pub kernel : LightKernel numerators

@@ -6,8 +6,8 @@ use picture::EdgeMode;
 ghost use Prim.Native.Nat.{_+_, _*_, _<_, _^_};
 ghost use lib.ListN.{length};
 ghost use Rattle.edges.specs.Edges.{sample, Reach};
-ghost use Rattle.backwards.specs.Worth.{total, Gained};
-ghost use Rattle.backwards.specs.Steps.{tapSum, TapsReady};
+ghost use Rattle.back_passes.specs.Worth.{total, Gained};
+ghost use Rattle.back_passes.specs.Steps.{tapSum, TapsReady};
 
 // Adds to what the element is worth that the coordinate c - d reads.
 fn add_tap(row: &mut [u32], c: usize, d: usize, more: u32, mode: EdgeMode)

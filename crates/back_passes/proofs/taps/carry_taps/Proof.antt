@@ -5,11 +5,11 @@ use native.Mathlib.Omega.{arith}
 use lib.ListN.{length, getD}
 use Rattle.edges.specs.Edges.{sample}
 use Rattle.binary32.specs.Grid.{sum}
-use Rattle.backwards.specs.Worth.{total, Gained}
-use Rattle.backwards.specs.Steps.{tapsTo, tapSum}
-use Rattle.backwards.proofs.Taken.{taps-none, taps-more, taps-room}
-use Rattle.backwards.proofs.taps.carry_taps.Statement.{statement}
-use Rattle.backwards.proofs.taps.carry_taps.Tie as tie
+use Rattle.back_passes.specs.Worth.{total, Gained}
+use Rattle.back_passes.specs.Steps.{tapsTo, tapSum}
+use Rattle.back_passes.proofs.Taken.{taps-none, taps-more, taps-room}
+use Rattle.back_passes.proofs.taps.carry_taps.Statement.{statement}
+use Rattle.back_passes.proofs.taps.carry_taps.Tie as tie
 
 abbrev Inv-loop : tie.InvT-loop
 Inv-loop row₀ c d v taps mode j₀ row j =

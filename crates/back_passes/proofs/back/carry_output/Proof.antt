@@ -8,12 +8,12 @@ use lib.ListN.{length}
 use Rattle.picture.proofs.Sizes.{room-is}
 use Rattle.binary32.specs.Grid.{sum}
 use Rattle.exact_blur.specs.Exact.{exactHalve, exactConvolve}
-use Rattle.backwards.specs.Worth.{Gained}
-use Rattle.backwards.specs.Steps.{tapSum, exactPass, OutputReady}
-use Rattle.backwards.specs.declared.back.PassKind.{PassKind}
-use Rattle.backwards.proofs.Taken.{halve-taps, convolve-taps, gained-as, taps-ready}
-use Rattle.backwards.proofs.back.carry_output.Statement.{statement}
-use Rattle.backwards.proofs.back.carry_output.Tie as tie
+use Rattle.back_passes.specs.Worth.{Gained}
+use Rattle.back_passes.specs.Steps.{tapSum, exactPass, OutputReady}
+use Rattle.back_passes.specs.declared.back.PassKind.{PassKind}
+use Rattle.back_passes.proofs.Taken.{halve-taps, convolve-taps, gained-as, taps-ready}
+use Rattle.back_passes.proofs.back.carry_output.Statement.{statement}
+use Rattle.back_passes.proofs.back.carry_output.Tie as tie
 
 mul-carry-taps : tie.Need-mul-carry-taps
 mul-carry-taps c = let s = c .before .before .before .before .before in omega (arith, s .pre .far, room-is)

@@ -5,8 +5,8 @@ use mathlib.Core.Logic.{⊎-elim}
 use native.Mathlib.Omega.{arith}
 use lib.ListN.{length, getD}
 use Rattle.picture.proofs.Spans.{le-or-lt}
-use Rattle.backwards.proofs.rows.next_nonzero.Statement.{statement}
-use Rattle.backwards.proofs.rows.next_nonzero.Tie as tie
+use Rattle.back_passes.proofs.rows.next_nonzero.Statement.{statement}
+use Rattle.back_passes.proofs.rows.next_nonzero.Tie as tie
 
 abbrev Inv-loop : tie.InvT-loop
 Inv-loop row from i₀ i = (from ≤ i) × (i ≤ length row) × ((k : ℕ) → from ≤ k → k < i → getD row k 0 ≡ 0)

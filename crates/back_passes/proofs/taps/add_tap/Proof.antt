@@ -2,9 +2,9 @@
 use mathlib.Core.Path.{_∙_, sym}
 use borrow.Author.Needs.{needs}
 use Rattle.edges.proofs.Places.{below, found-below}
-use Rattle.backwards.proofs.Taken.{tap-in, tap-out}
-use Rattle.backwards.proofs.taps.add_tap.Statement.{statement}
-use Rattle.backwards.proofs.taps.add_tap.Tie as tie
+use Rattle.back_passes.proofs.Taken.{tap-in, tap-out}
+use Rattle.back_passes.proofs.taps.add_tap.Statement.{statement}
+use Rattle.back_passes.proofs.taps.add_tap.Tie as tie
 
 add-requires : tie.Need-add-requires
 add-requires c κs =

@@ -21,10 +21,10 @@ use Rattle.binary32.specs.Taps.{sumTo}
 use Rattle.grid_sums.specs.Sums.{gridSum}
 use Rattle.exact_blur.specs.Exact.{exactHalve, exactDouble, exactConvolve}
 use Rattle.share_laws.proofs.Sums.{sum-is, sum-most}
-use Rattle.backwards.specs.Worth.{worthOf, total, Gained}
-use Rattle.backwards.specs.Steps.{tapsTo, tapSum, gain, TapsReady, OutputReady}
-use Rattle.backwards.specs.declared.back.PassKind.{PassKind}
-use Rattle.backwards.proofs.Worth.{sum-grows}
+use Rattle.back_passes.specs.Worth.{worthOf, total, Gained}
+use Rattle.back_passes.specs.Steps.{tapsTo, tapSum, gain, TapsReady, OutputReady}
+use Rattle.back_passes.specs.declared.back.PassKind.{PassKind}
+use Rattle.back_passes.proofs.Worth.{sum-grows}
 
 module _ (mode : EdgeMode) (s : ℕ) where
   -- an element that the coordinate reads, or none

@@ -6,10 +6,10 @@ use borrow.Author.Needs.{needs}
 use lib.ListN.{length}
 use Rattle.binary32.specs.Grid.{sum}
 use Rattle.exact_blur.specs.Exact.{exactDouble}
-use Rattle.backwards.specs.Steps.{tapSum}
-use Rattle.backwards.proofs.Taken.{even-taps, odd-taps, gained-as, taps-ready}
-use Rattle.backwards.proofs.back.double_output.Statement.{statement}
-use Rattle.backwards.proofs.back.double_output.Tie as tie
+use Rattle.back_passes.specs.Steps.{tapSum}
+use Rattle.back_passes.proofs.Taken.{even-taps, odd-taps, gained-as, taps-ready}
+use Rattle.back_passes.proofs.back.double_output.Statement.{statement}
+use Rattle.back_passes.proofs.back.double_output.Tie as tie
 
 carry-taps-requires : tie.Need-carry-taps-requires
 unfolding sum

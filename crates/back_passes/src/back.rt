@@ -4,8 +4,8 @@ use crate::taps::carry_taps;
 use picture::EdgeMode;
 ghost use Prim.Native.Nat.{_*_};
 ghost use lib.ListN.{length};
-ghost use Rattle.backwards.specs.Worth.{worthOf, Gained};
-ghost use Rattle.backwards.specs.Steps.{exactPass, OutputReady, PassReady};
+ghost use Rattle.back_passes.specs.Worth.{worthOf, Gained};
+ghost use Rattle.back_passes.specs.Steps.{exactPass, OutputReady, PassReady};
 
 // A pass of the blur.
 pub enum PassKind {

@@ -5,8 +5,8 @@ use Prim.Native.Nat.{_≤_, _-_}
 use native.Mathlib.Omega.{arith}
 use borrow.Author.Fill.{fill-more}
 use lib.ListN.{length, drop, replicate, length-set, drop-of-length-le}
-use Rattle.backwards.proofs.rows.clear_row.Statement.{statement}
-use Rattle.backwards.proofs.rows.clear_row.Tie as tie
+use Rattle.back_passes.proofs.rows.clear_row.Statement.{statement}
+use Rattle.back_passes.proofs.rows.clear_row.Tie as tie
 
 abbrev Inv-loop : tie.InvT-loop
 Inv-loop row₀ i₀ row i = (i ≤ length row₀) × (length row ≡ length row₀) × (row ≡ replicate i 0 ++ drop i row₀)

@@ -11,11 +11,11 @@ use Rattle.picture.specs.declared.EdgeMode.{EdgeMode}
 use Rattle.binary32.specs.Taps.{sumTo}
 use Rattle.share_laws.proofs.Sums.{sum-same, sum-most}
 use Rattle.share_laws.proofs.Flat.{halve-most, double-most, convolve-most}
-use Rattle.backwards.specs.Worth.{worthOf, total, Gained, NextNonzero}
-use Rattle.backwards.specs.Steps.{exactPass, gain, LightKernel}
-use Rattle.backwards.specs.declared.back.PassKind.{PassKind}
-use Rattle.backwards.specs.declared.back.PassKind.the-variants.{Halve, Double, Convolve}
-use Rattle.backwards.proofs.Worth.{sum-grows, sum-skip}
+use Rattle.back_passes.specs.Worth.{worthOf, total, Gained, NextNonzero}
+use Rattle.back_passes.specs.Steps.{exactPass, gain, LightKernel}
+use Rattle.back_passes.specs.declared.back.PassKind.{PassKind}
+use Rattle.back_passes.specs.declared.back.PassKind.the-variants.{Halve, Double, Convolve}
+use Rattle.back_passes.proofs.Worth.{sum-grows, sum-skip}
 
 -- a pass of a line of at most k is at most its gain times k
 pub gain-most : (kind : PassKind) (mode : EdgeMode) (ms : List ℕ) → LightKernel ms → (l : Line) (k : ℕ) → ((i : ℕ) → l i ≤ k) → (s x : ℕ) → exactPass kind mode ms s l x ≤ gain kind * k

@@ -13,7 +13,7 @@ use Rattle.picture.specs.Planes.{Line}
 use Rattle.binary32.specs.Taps.{sumTo}
 use Rattle.share_laws.specs.Share.{unit}
 use Rattle.share_laws.proofs.Sums.{sum-same, sum-none, sum-pick, sum-most}
-use Rattle.backwards.specs.Worth.{worthOf, total, Gained, Blank}
+use Rattle.back_passes.specs.Worth.{worthOf, total, Gained, Blank}
 
 -- one part of a sum is more by e
 sum-change : (f g : ℕ → ℕ) (e n i : ℕ) → i < n → ((j : ℕ) → j < n → (j ≡ i → ⊥) → f j ≡ g j) → f i ≡ g i + e → sumTo f n ≡ sumTo g n + e
