@@ -2,15 +2,16 @@
 use mathlib.Core.Path.{_≡_, _∙_, sym, ap}
 use mathlib.Core.Bool.{false}
 use mathlib.Core.List.{List, _++_}
-use Prim.Native.Nat.{ℕ, _+_, _-_, _≤_}
+use Prim.Native.Nat.{ℕ, _+_, _-_, _*_, _/_, _≤_}
 use native.Mathlib.Omega.{arith}
 use lib.Dec.{lit<}
 use lib.Ieee.{Float}
 use lib.ListN.{length, take, drop}
-use lib.Seq.{length-front, length-take-le, drop-append-add, drop-drop}
+use lib.Seq.{length-take-le, drop-append-add, drop-drop}
 use borrow.Author.Tests.{ltb-false}
 use Rattle.picture.specs.Planes.{cleared}
-use Rattle.picture.specs.Sizes.{fullSize}
+use Rattle.picture.specs.Sizes.{fullSize, fullBytes}
+use Rattle.picture.specs.declared.FullSize.{FullSize}
 use Rattle.picture.specs.Refusal.{firstOf, wrongSides, tooShort}
 use Rattle.picture.proofs.Planes.{cleared-is}
 use Rattle.picture.proofs.Sizes.{whole}
@@ -19,15 +20,12 @@ use Rattle.picture.proofs.Tests.{neither}
 use Rattle.binary32.specs.Ranges.{anyOutside}
 use Rattle.composite.specs.Shadow.{InUnit}
 use Rattle.drop_shadow.specs.Shadowed.{colourOf}
-use Rattle.drop_shadow.specs.Needs.{ShadowAccepted}
+use Rattle.drop_shadow.specs.Needs.{ShadowReady, ShadowAccepted}
 use Rattle.drop_shadow.specs.Outcome.{eitherShort, notFinite, wrongColour, shadowChecks}
 use Rattle.drop_shadow.specs.declared.Recipe.{Recipe}
 
 -- ---- a work buffer whose first a bytes are lent and come back as e, and of which the first k, at least as many, are cleared
 module _ {a k : ℕ} (work e : List ℕ) (l : a ≤ k) (fits : k ≤ length work) (kept : length e ≡ length (take a work)) where
-  pub comes-back : k ≤ length (e ++ drop a work)
-  comes-back = omega (arith, length-front work e a kept)
-
   -- nothing after them changed
   same-rest : drop k (e ++ drop a work) ≡ drop k work
   same-rest =
@@ -38,8 +36,26 @@ module _ {a k : ℕ} (work e : List ℕ) (l : a ≤ k) (fits : k ≤ length work
   cleared-part : cleared k (e ++ drop a work) ≡ cleared k work
   cleared-part = rw (cleared-is, cleared-is, same-rest)
 
-  pub cleared-whole : {m : ℕ} {z : List ℕ} → k ≡ m → z ≡ cleared k (e ++ drop a work) → z ≡ cleared m work
+  cleared-whole : {m : ℕ} {z : List ℕ} → k ≡ m → z ≡ cleared k (e ++ drop a work) → z ≡ cleared m work
   cleared-whole is clear = clear ∙ cleared-part ∙ ap (λ (n : ℕ). cleared n work) is
+
+-- ---- an accepted call, whose plane and its scratch are the first w * h bytes of the work buffers
+module _ {size : FullSize} {picture scratch copy : List ℕ} {weights : List Float} {recipe : Recipe} {k : ℕ} (r : ShadowAccepted size picture scratch copy weights recipe) (is : k ≡ fullBytes size) where
+  pub scratch-part : length (take (k / 4) scratch) ≡ k / 4
+  scratch-part = length-take-le (k / 4) scratch (omega (arith, r .scratch-room))
+
+  pub copy-part : length (take (k / 4) copy) ≡ k / 4
+  copy-part = length-take-le (k / 4) copy (omega (arith, r .copy-room))
+
+  pub parts-ready : ShadowReady size (take (k / 4) scratch) (take (k / 4) copy) weights recipe
+  parts-ready = let area : k / 4 ≡ size .w * size .h = omega arith in record { sized = r .pictured .sized; plane-is = copy-part ∙ area; scratch-is = scratch-part ∙ area; given = r .given }
+
+  module _ {z : List ℕ} (e : List ℕ) where
+    pub scratch-cleared : length e ≡ length (take (k / 4) scratch) → z ≡ cleared k (e ++ drop (k / 4) scratch) → z ≡ cleared (fullBytes size) scratch
+    scratch-cleared kept = cleared-whole {a = k / 4} scratch e (omega arith) (omega (arith, r .scratch-room)) kept is
+
+    pub copy-cleared : length e ≡ length (take (k / 4) copy) → z ≡ cleared k (e ++ drop (k / 4) copy) → z ≡ cleared (fullBytes size) copy
+    copy-cleared kept = cleared-whole {a = k / 4} copy e (omega arith) (omega (arith, r .copy-room)) kept is
 
 -- ---- no refusal
 -- a colour that check 8 lets through

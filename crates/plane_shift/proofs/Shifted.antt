@@ -16,7 +16,6 @@ use Rattle.picture.proofs.Spans.{within}
 use Rattle.binary32.specs.declared.Offset.{Offset}
 use Rattle.planes.specs.Planar.{planeOf, onPlanes}
 use Rattle.planes.proofs.Planar.{planes-ext}
-use Rattle.planes.proofs.Filled.{read}
 use Rattle.planes.proofs.Once.{on-planes}
 use Rattle.shift.specs.Shift.{shifted, shiftedPicture}
 use Rattle.shift.specs.Bytes.{planeShifted}
@@ -65,7 +64,7 @@ module _ (dx dy : Offset) (w h : ℕ) where
     unfolding planeOf
     here x y lx ly =
         let inside : y * w + x < k = omega (arith, pixel-fits w h x y lx ly, is) in
-        read after {j = c * (h * w) + (y * w + x)} {k = c * n + (y * w + x)} (omega (arith, start))
+        ap (lineOf after) {x = c * (h * w) + (y * w + x)} {y = c * n + (y * w + x)} (omega (arith, start))
         ∙ put-inside (c * n) k new part fits long (y * w + x) inside
         ∙ read-of made (y * w + x)
         ∙ plane-at (midOf (c * n) k new) x y lx ly
@@ -73,7 +72,7 @@ module _ (dx dy : Offset) (w h : ℕ) where
         (λ i j li lj.
         let inner : j * w + i < k = omega (arith, pixel-fits w h i j li lj, is) in
         mid-at (c * n) k new part fits long (j * w + i) inner
-        ∙ read new {j = c * n + (j * w + i)} {k = c * (h * w) + (j * w + i)} (omega (arith, start))
+        ∙ ap (lineOf new) {x = c * n + (j * w + i)} {y = c * (h * w) + (j * w + i)} (omega (arith, start))
         ∙ so .above c i j (omega arith) lc li lj)
         x y
       where
@@ -86,7 +85,7 @@ module _ (dx dy : Offset) (w h : ℕ) where
         let i = d * (h * w) + (y * w + x) in
         let j = i - (c * n + k) in
         let at : i ≡ c * n + (k + j) = omega (arith, within 0 (h * w) c d l, start, is) in
-        read after {j = i} {k = c * n + (k + j)} at ∙ put-after (c * n) k new part fits long j ∙ read new {j = c * n + (k + j)} {k = i} (sym at)
+        ap (lineOf after) {x = i} {y = c * n + (k + j)} at ∙ put-after (c * n) k new part fits long j ∙ ap (lineOf new) {x = c * n + (k + j)} {y = i} (sym at)
 
     -- one plane more
     pub plane-more : BelowMoved old after (c + 1)

@@ -1,0 +1,3 @@
+-- Laws of the shadow on four planes.
+pub mod Laying
+pub mod Cast

@@ -1,0 +1,47 @@
+-- Alpha's plane is cast, and what is written is the planes with the shadow of it.
+use mathlib.Core.Path.{_≡_, _∙_}
+use Prim.Native.Nat.{_-_, _*_}
+use native.Mathlib.Omega.{arith}
+use borrow.Author.Needs.{needs}
+use lib.ListN.{length}
+use Rattle.plane_shadow.proofs.Cast.{planes-shadowed}
+use Rattle.plane_shadow.proofs.apply_shadow_planes.Statement.{statement}
+use Rattle.plane_shadow.proofs.apply_shadow_planes.Tie as tie
+
+write-plane-shadow-requires : tie.Need-write-plane-shadow-requires
+write-plane-shadow-requires c κs =
+    let made = c .before .before in
+    let cast = made .before .before .before .before .before in
+    let copied = cast .before .before .before .before .before in
+    let needs = copied .before .before .before .before .before .before .before .before .pre in
+    rw (made .colour-of .ensures)
+    (record { pictured = record { sized = needs .0 .sized; exact = needs .1 }; exact = cast .cast-plane .kept .0 ∙ copied .copy-bytes .kept .0 ∙ needs .0 .plane-is }, needs .0 .given .colour)
+
+returns : tie.Need-returns
+returns c =
+    let write = c .before .before .before .before in
+    let made = write .before .before .before in
+    let cast = made .before .before .before .before .before in
+    let copied = cast .before .before .before .before .before in
+    let s = copied .before .before .before .before .before .before .before .before in
+    let a = s .args in
+    write .write-plane-shadow .ensures
+    ∙ rw (made .colour-of .ensures, cast .cast-plane .ensures, copied .copy-bytes .ensures)
+    (planes-shadowed (a .mode) (a .weights .now) (a .n) (a .recipe) (a .size .w) (a .size .h) (s .pre .0 .sized .w-low) (s .pre .0 .sized .h-low) (a .composite) (a .planes .now) (length (a .plane .now)) (length (a .planes .now) - 3 * length (a .plane .now)) (s .pre .0 .plane-is) (omega (arith, s .pre .0 .plane-is, s .pre .1)))
+
+pub apply-shadow-planes-spec : {M : Type 1} → statement M
+apply-shadow-planes-spec =
+    tie.close
+    (tie.spec
+    (λ c. search needs)
+    (λ c. search needs)
+    (λ c. search needs)
+    (λ c. search needs)
+    (λ c κs. search needs)
+    (λ c κs. search needs)
+    (λ c κs. search needs)
+    write-plane-shadow-requires
+    (λ c. search needs)
+    (λ c. search needs)
+    (λ c. search needs)
+    returns)
