@@ -6,7 +6,8 @@ use Prim.Native.Nat.{ℕ, _+_, _<_, _≤_}
 use lib.ListN.{length, take, drop}
 use Rattle.picture.specs.Planes.{bytesOf, cleared}
 use Rattle.picture.specs.Refusal.{wrongSides}
-use Rattle.plate_format.specs.Format.{count, entryOf}
+use Rattle.plate_numbers.specs.Numbers.{count}
+use Rattle.plate_format.specs.Format.{entryOf}
 use Rattle.plate_format.specs.Needs.{Tabled}
 use Rattle.body_blur.specs.Blur.{BodyBlur}
 

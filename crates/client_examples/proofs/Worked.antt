@@ -31,7 +31,8 @@ use Rattle.drop_shadow.specs.declared.Recipe.{Recipe}
 use Rattle.pixels.specs.Channels.{exceeds, premultiply}
 use Rattle.grading.specs.Premultiplied.{foundAt, firstFrom, scanned, checked}
 use Rattle.grading.specs.Sampling.{viewRefusal, sampled}
-use Rattle.plate_format.specs.Format.{u16At, u32At, newest, knownTo, maxCount, labelled, entrySize, largestSide, larger, largestWhole, labelAt, entryOf, bodyOffset, wrongSidesOf, wrongUnit, obeys, allBelow, filled, isPlateTo}
+use Rattle.plate_numbers.specs.Numbers.{u16At, u32At, newest, knownTo, labelled, entrySize, largestSide, larger, largestWhole, wrongUnit}
+use Rattle.plate_format.specs.Format.{maxCount, labelAt, entryOf, bodyOffset, wrongSidesOf, obeys, allBelow, filled, isPlateTo}
 use Rattle.plate.specs.Lookup.{lookedUpTo, lookedUp, beside, labelledUpTo, labelledUp}
 use Rattle.body_blur.specs.Blur.{plateBlur}
 use Rattle.job.specs.Job as job

@@ -7,7 +7,8 @@ use native.Mathlib.Numerals.{add-one}
 use native.Mathlib.Omega.{arith}
 use lib.ListN.{length, getD, take, drop, length-append, length-drop, take-append-drop, List·getD-append}
 use lib.Seq.{length-take-le, getD-take, take-at, drop-at, drop-drop, drop-length}
-use Rattle.plate_format.specs.Format.{count, entryAt, entryOf, bodyOffset, isPlate}
+use Rattle.plate_numbers.specs.Numbers.{count}
+use Rattle.plate_format.specs.Format.{entryAt, entryOf, bodyOffset, isPlate}
 use Rattle.plate_format.specs.Needs.{Tabled}
 use Rattle.plate_format.proofs.Table.{same-count, same-entry-at, same-entry}
 use Rattle.plate_format.proofs.Rules.{rules, offset-up, plate-tabled, plate-entry}

@@ -17,7 +17,8 @@ use Rattle.picture.proofs.Passed.{passed}
 use Rattle.picture.proofs.Settled.{read}
 use Rattle.gaussian_blur.specs.Blurred.{blurred}
 use Rattle.gaussian_blur.specs.Outcome.{blurredOrKept}
-use Rattle.plate_format.specs.Format.{count, entryAt, entryOf, bodyOffset, isPlate}
+use Rattle.plate_numbers.specs.Numbers.{count}
+use Rattle.plate_format.specs.Format.{entryAt, entryOf, bodyOffset, isPlate}
 use Rattle.plate_format.specs.declared.Entry.{Entry}
 use Rattle.plate_format.proofs.Rules.{rules, plate-tabled, plate-entry}
 use Rattle.body_blur.specs.Blur.{plateWeights, plateBlur}

@@ -4,7 +4,7 @@ use mathlib.Core.List.{List}
 use Prim.Native.Nat.{ℕ, _<_}
 use Rattle.picture.specs.Answer.{answered, lent, settled}
 use Rattle.picture.specs.Refusal.{firstElse, firstOf}
-use Rattle.plate_format.specs.Format.{version}
+use Rattle.plate_numbers.specs.Numbers.{version}
 use Rattle.plate_format.proofs.Earlier.{newer}
 use Rattle.body_blur.specs.Blur.{BodyBlur}
 use Rattle.job.specs.Job.{jobOutcomeTo}

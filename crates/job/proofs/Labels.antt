@@ -11,7 +11,8 @@ use lib.Dec.{eqb}
 use borrow.Author.Tests.{eqb-true, eqb-false}
 use Rattle.picture.specs.Answer.{answered, Lent, lent}
 use Rattle.picture.proofs.Settled.{read}
-use Rattle.plate_format.specs.Format.{count, entryOf, isPlate}
+use Rattle.plate_numbers.specs.Numbers.{count}
+use Rattle.plate_format.specs.Format.{entryOf, isPlate}
 use Rattle.body_blur.specs.Blur.{plateBlur}
 use Rattle.job.specs.Job.{jobbed, jobOutcomeTo, jobOutcome}
 use Rattle.job.proofs.After.{after-all, entry-kept}

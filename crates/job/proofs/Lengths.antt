@@ -6,7 +6,8 @@ use Prim.Native.Nat.{ℕ, zero, suc, _≤_}
 use native.Mathlib.Decide.{le-ind}
 use native.Mathlib.Omega.{arith}
 use lib.ListN.{length}
-use Rattle.plate_format.specs.Format.{count, isPlate}
+use Rattle.plate_numbers.specs.Numbers.{count}
+use Rattle.plate_format.specs.Format.{isPlate}
 use Rattle.plate_format.proofs.Rules.{plate-entry}
 use Rattle.job.specs.Job.{longestBelow}
 

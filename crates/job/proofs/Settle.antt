@@ -9,7 +9,8 @@ use borrow.Author.Tests.{lt-ltb, le-ltb}
 use Rattle.picture.specs.Planes.{cleared}
 use Rattle.picture.specs.Answer.{Answer, answered, Lent, lent, settled}
 use Rattle.picture.specs.Refusal.{firstElse, firstOf}
-use Rattle.plate_format.specs.Format.{count, isPlate}
+use Rattle.plate_numbers.specs.Numbers.{count}
+use Rattle.plate_format.specs.Format.{isPlate}
 use Rattle.body_blur.specs.Blur.{BodyBlur}
 use Rattle.job.specs.Job.{longestBody, jobbed, jobOutcomeTo, jobOutcome}
 use Rattle.job.proofs.Lengths.{longest-inside}

@@ -8,7 +8,8 @@ use native.Mathlib.Omega.{arith}
 use lib.ListN.{length}
 use Rattle.picture.specs.Planes.{cleared, laid}
 use Rattle.picture.specs.Answer.{lent}
-use Rattle.plate_format.specs.Format.{count, entryOf, bodyOffset, isPlate}
+use Rattle.plate_numbers.specs.Numbers.{count}
+use Rattle.plate_format.specs.Format.{entryOf, bodyOffset, isPlate}
 use Rattle.plate_format.proofs.Rules.{plate-entry}
 use Rattle.body_blur.specs.Blur.{BodyBlur}
 use Rattle.job.specs.Job.{longestBelow, longestBody, jobbed}

@@ -7,7 +7,8 @@ use lib.ListN.{length, take, drop}
 use Rattle.picture.specs.Planes.{cleared}
 use Rattle.picture.specs.Answer.{Answer, Lent, lent, settled}
 use Rattle.picture.specs.Refusal.{Check, check, firstOf}
-use Rattle.plate_format.specs.Format.{count, newest, entryOf, bodyOffset, isPlateTo}
+use Rattle.plate_numbers.specs.Numbers.{count, newest}
+use Rattle.plate_format.specs.Format.{entryOf, bodyOffset, isPlateTo}
 use Rattle.body_blur.specs.Blur.{BodyBlur}
 
 -- body i: the stretch of the file that entry i names

@@ -19,7 +19,7 @@ fn blur_bodies(plate: &mut [u8], scratch: &mut [u8])
     requires { ⌜ (isPlate (now plate) ≡ true) × (longestBody (now plate) ≤ length (now scratch)) ⌝ }
     ensures { λ _. ⌜ lent (now (plate .exit)) (now (scratch .exit)) ≡ lent (jobbed plateBlur (now (plate .entry))) (cleared (longestBody (now (plate .entry))) (now (scratch .entry))) ⌝ }
 {
-    let n = plate_format::count(plate);
+    let n = plate_numbers::count(plate);
     let mut start = plate_format::table_end(plate);
     let mut i = 0;
     while i < n {

@@ -8,7 +8,7 @@ pub(crate) fn longest_body(plate: &[u8]) -> usize
     requires { ⌜ Tabled (now plate) ⌝ }
     ensures { λ r. ⌜ r ≡ longestBody (now (plate .entry)) ⌝ }
 {
-    let n = plate_format::count(plate);
+    let n = plate_numbers::count(plate);
     let mut longest = 0;
     let mut i = 0;
     while i < n {

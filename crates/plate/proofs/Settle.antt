@@ -11,7 +11,8 @@ use Rattle.picture.specs.Answer.{Answer, answered, settled}
 use Rattle.picture.specs.Refusal.{firstElse, firstOf, zeroOrAbove}
 use Rattle.picture.proofs.Answers.{refused, done}
 use Rattle.picture.proofs.Tests.{neither}
-use Rattle.plate_format.specs.Format.{version, count, labelled, labelAt, entryOf, wrongUnit, isPlate}
+use Rattle.plate_numbers.specs.Numbers.{version, count, labelled, wrongUnit}
+use Rattle.plate_format.specs.Format.{labelAt, entryOf, isPlate}
 use Rattle.plate_format.proofs.Rules.{Obeyed, plate-entry}
 use Rattle.plate.specs.Lookup.{Picture, nothing, pictureOf, lookupChecks, lookupNumber, lookedUpTo, lookedUp}
 use Rattle.plate.specs.declared.Refusal.{Refusal}

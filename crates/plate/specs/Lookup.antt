@@ -9,7 +9,8 @@ use denote.Ref.{RefT, ptr, now}
 use Rattle.picture.specs.Answer.{Answer, answered, settled}
 use Rattle.picture.specs.Refusal.{Check, check, firstOf}
 use Rattle.picture.specs.Slice.{SlicePart}
-use Rattle.plate_format.specs.Format.{count, newest, entryOf, bodyOffset, isPlateTo, isPlate}
+use Rattle.plate_numbers.specs.Numbers.{count, newest}
+use Rattle.plate_format.specs.Format.{entryOf, bodyOffset, isPlateTo, isPlate}
 use Rattle.plate.specs.declared.Refusal.{Refusal}
 use Rattle.plate.specs.declared.Refusal.the-variants.{BrokenPlate, NoPicture}
 use Rattle.plate.specs.declared.Stretch.{Stretch}

@@ -106,7 +106,7 @@ fn entry_of(plate: &[u8], index: u32) -> Asked
         return Asked::Unlisted(Refusal::BrokenPlate);
     }
     let i = index as usize;
-    if plate_format::count(plate) <= i {
+    if plate_numbers::count(plate) <= i {
         return Asked::Unlisted(Refusal::NoPicture);
     }
     Asked::Listed(plate_format::read_entry(plate, i))

@@ -12,10 +12,11 @@ use lib.Seq.{take-append-le, drop-append-le, drop-append-add, drop-drop, drop-le
 use borrow.Author.Tests.{lt-ltb, le-ltb, le-leb, eq-eqb}
 use Rattle.picture.specs.Planes.{bytesOf}
 use Rattle.picture.specs.Refusal.{wrongSides, wrongLength}
-use Rattle.plate_format.specs.Format.{version, count, maxCount, labelled, labelAt, entrySize, largestWhole, entryOf, bodyOffset, wrongSidesOf, wrongUnit, obeys, entryObeys, allBelow, filled, isPlateTo, isPlate}
+use Rattle.plate_numbers.specs.Numbers.{version, count, labelled, entrySize, largestWhole, wrongUnit}
+use Rattle.plate_format.specs.Format.{maxCount, labelAt, entryOf, bodyOffset, wrongSidesOf, obeys, entryObeys, allBelow, filled, isPlateTo, isPlate}
 use Rattle.plate_format.specs.declared.Entry.{Entry}
 use Rattle.plate_format.proofs.Rules.{rules, wide-is-long, offset-up, plate-entry}
-use Rattle.plate_format.proofs.Written.{Apt, version-read, count-read, entry-read}
+use Rattle.plate_written.proofs.Written.{Apt, version-read, count-read, entry-read}
 use Rattle.plate.specs.Lookup.{Beside}
 use Rattle.plate_table.specs.Table.{headAfter, further, entryAfter}
 use Rattle.plate_room.specs.Room.{given, newEntry, lengthAfter}

@@ -5,9 +5,10 @@ use Prim.Native.Nat.{ℕ}
 use native.Mathlib.Nat.{zero-mul}
 use native.Mathlib.Omega.{arith}
 use borrow.Author.Tests.{le-leb}
-use Rattle.plate_format.specs.Format.{u16At, version, count, known, maxCount, largestWhole, bodyOffset, allBelow, filled, isPlateTo, isPlate}
-use Rattle.plate_format.specs.Written.{bytes16, headerBytes}
-use Rattle.plate_format.proofs.Table.{whole-small}
+use Rattle.plate_numbers.specs.Numbers.{u16At, version, count, known, largestWhole}
+use Rattle.plate_format.specs.Format.{maxCount, bodyOffset, allBelow, filled, isPlateTo, isPlate}
+use Rattle.plate_written.specs.Written.{bytes16, headerBytes}
+use Rattle.plate_numbers.proofs.Versions.{whole-small}
 use Rattle.plate_write.specs.Added.{emptyPlate}
 
 pub empty-version : (v : ℕ) → version (emptyPlate v) ≡ v

@@ -6,7 +6,7 @@ use contract.Lifetimes.{Lfts}
 use borrow.Fn.Kinds.{Dens, endedOf}
 use denote.Triple.Clauses.{AtExit}
 use denote.Ref.{now}
-use Rattle.plate_format.specs.Format.{version, labelled, wrongUnit}
+use Rattle.plate_numbers.specs.Numbers.{version, labelled, wrongUnit}
 use Rattle.plate.specs.Lookup.{Beside, beside}
 use Rattle.plate_room.specs.Room.{given, inUse, noPlate}
 use Rattle.plate_write.specs.Added.{added}

@@ -12,8 +12,9 @@ use lib.ListN.{length, take, drop}
 use lib.Seq.{take-at, drop-at}
 use Rattle.picture.specs.Answer.{answered}
 use Rattle.picture.specs.Planes.{laid}
-use Rattle.plate_format.specs.Format.{version, count, entrySize, entryOf, isPlate}
-use Rattle.plate_format.proofs.Written.{length-header}
+use Rattle.plate_numbers.specs.Numbers.{version, count, entrySize}
+use Rattle.plate_format.specs.Format.{entryOf, isPlate}
+use Rattle.plate_written.proofs.Written.{length-header}
 use Rattle.plate.specs.Lookup.{pictureOf, lookedUp, answers, Beside, beside, labelledUpTo, labelledUp}
 use Rattle.plate.specs.declared.Lookup.{Lookup}
 use Rattle.plate.proofs.Settle.{listed, there}

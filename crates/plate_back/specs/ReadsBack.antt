@@ -6,7 +6,8 @@ use Prim.Native.Nat.{ℕ, _+_, _<_}
 use lib.ListN.{length, take, drop}
 use Rattle.picture.specs.Answer.{Answer, answered}
 use Rattle.picture.specs.Planes.{bytesOf}
-use Rattle.plate_format.specs.Format.{version, count, entrySize, isPlate}
+use Rattle.plate_numbers.specs.Numbers.{version, count, entrySize}
+use Rattle.plate_format.specs.Format.{isPlate}
 use Rattle.plate.specs.Lookup.{Picture, lookedUp, Beside, beside, labelledUp}
 use Rattle.plate_room.specs.Room.{given}
 

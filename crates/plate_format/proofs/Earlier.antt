@@ -6,7 +6,8 @@ use Prim.Native.Nat.{ℕ, _<_}
 use native.Mathlib.Omega.{arith}
 use borrow.Author.Tests.{lt-ltb, ne-eqb}
 use Rattle.picture.specs.Refusal.{zeroOrAbove}
-use Rattle.plate_format.specs.Format.{version, knownTo, isPlateTo}
+use Rattle.plate_numbers.specs.Numbers.{version, knownTo}
+use Rattle.plate_format.specs.Format.{isPlateTo}
 
 pub newer : (r : ℕ) (file : List ℕ) → r < version file → isPlateTo r file ≡ false
 unfolding isPlateTo knownTo zeroOrAbove

@@ -2,6 +2,5 @@
 pub mod Tests
 pub mod Table
 pub mod Rules
-pub mod Written
 pub mod Worked
 pub mod Earlier

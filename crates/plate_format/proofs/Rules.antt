@@ -13,7 +13,8 @@ use Rattle.picture.specs.Planes.{bytesOf}
 use Rattle.picture.specs.Sizes.{maxSide}
 use Rattle.picture.specs.Refusal.{wrongSides, wrongLength}
 use Rattle.picture.proofs.Conditions.{Counted, sides-inside, right-sides}
-use Rattle.plate_format.specs.Format.{version, count, known, maxCount, larger, largestSide, largestWhole, entryAt, entryOf, bodyOffset, wrongSidesOf, wrongUnit, obeys, entryObeys, filled, isPlateTo, isPlate}
+use Rattle.plate_numbers.specs.Numbers.{version, count, known, larger, largestSide, largestWhole, wrongUnit}
+use Rattle.plate_format.specs.Format.{maxCount, entryAt, entryOf, bodyOffset, wrongSidesOf, obeys, entryObeys, filled, isPlateTo, isPlate}
 use Rattle.plate_format.specs.Needs.{Tabled}
 use Rattle.plate_format.proofs.Tests.{both, all-at}
 

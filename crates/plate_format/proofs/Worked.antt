@@ -7,7 +7,8 @@ use native.Mathlib.Nat.{zero-mul}
 use lib.ListN.{length}
 use Rattle.picture.specs.Refusal.{zeroOrAbove, wrongLength}
 use Rattle.picture.specs.Sizes.{maxSide}
-use Rattle.plate_format.specs.Format.{u16At, u32At, count, knownTo, newest, maxCount, labelled, labelAt, wrongUnit, entrySize, larger, largestSide, largestWhole, entryOf, bodyOffset, wrongSidesOf, obeys, allBelow, filled, isPlateTo, isPlate}
+use Rattle.plate_numbers.specs.Numbers.{u16At, u32At, count, knownTo, newest, labelled, wrongUnit, entrySize, larger, largestSide, largestWhole}
+use Rattle.plate_format.specs.Format.{maxCount, labelAt, entryOf, bodyOffset, wrongSidesOf, obeys, allBelow, filled, isPlateTo, isPlate}
 use Rattle.plate_format.proofs.Rules.{rules}
 
 pub worked : isPlate (1 ∷ 0 ∷ 1 ∷ 0 ∷ 1 ∷ 0 ∷ 1 ∷ 0 ∷ 16 ∷ 0 ∷ 0 ∷ 0 ∷ 4 ∷ 0 ∷ 0 ∷ 0 ∷ 10 ∷ 20 ∷ 30 ∷ 255 ∷ []) ≡ true

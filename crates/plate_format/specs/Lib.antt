@@ -1,4 +1,3 @@
 -- The definitions that contracts cite of a plate file.
 pub mod Format
-pub mod Written
 pub mod Needs

@@ -11,9 +11,10 @@ use Rattle.picture.specs.Refusal.{wrongSides}
 use Rattle.picture.specs.Sizes.{maxSide}
 use Rattle.picture.proofs.Conditions.{right-sides}
 use Rattle.picture.proofs.Tests.{neither}
-use Rattle.plate_format.specs.Format.{version, count, maxCount, largestWhole, wrongUnit, isPlate}
+use Rattle.plate_numbers.specs.Numbers.{version, count, largestWhole, wrongUnit}
+use Rattle.plate_format.specs.Format.{maxCount, isPlate}
 use Rattle.plate_format.proofs.Rules.{rules}
-use Rattle.plate_format.proofs.Table.{whole-small}
+use Rattle.plate_numbers.proofs.Versions.{whole-small}
 use Rattle.plate_room.specs.Room.{inUse, noPlate, lengthAfter, noRoom}
 
 -- sides that check 1 lets through have room in two bytes

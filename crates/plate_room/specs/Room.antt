@@ -5,7 +5,8 @@ use Prim.Native.Nat.{ℕ, _+_}
 use lib.Dec.{ltb}
 use lib.ListN.{length, take}
 use Rattle.picture.specs.Planes.{bytesOf}
-use Rattle.plate_format.specs.Format.{version, count, maxCount, labelled, entrySize, largestWhole, wrongUnit, isPlate}
+use Rattle.plate_numbers.specs.Numbers.{version, count, labelled, entrySize, largestWhole, wrongUnit}
+use Rattle.plate_format.specs.Format.{maxCount, isPlate}
 use Rattle.plate_format.specs.declared.Entry.{Entry}
 use Rattle.plate.specs.Lookup.{Beside}
 

@@ -8,12 +8,13 @@ use native.Mathlib.Omega.{arith}
 use lib.ListN.{length}
 use borrow.Author.Tests.{lt-ltb, le-ltb}
 use Rattle.picture.specs.Planes.{laid}
-use Rattle.plate_format.specs.Format.{version, count, entrySize, entryAt, entryOf}
+use Rattle.plate_numbers.specs.Numbers.{version, count, entrySize}
+use Rattle.plate_format.specs.Format.{entryAt, entryOf}
 use Rattle.plate_format.specs.Needs.{Tabled}
-use Rattle.plate_format.specs.Written.{headerBytes, entryBytes, tableOf}
+use Rattle.plate_written.specs.Written.{headerBytes, entryBytes, tableOf}
 use Rattle.plate_format.specs.declared.Entry.{Entry}
 use Rattle.plate_format.proofs.Table.{same-u16, entry-same}
-use Rattle.plate_format.proofs.Written.{length-header, length-table}
+use Rattle.plate_written.proofs.Written.{length-header, length-table}
 use Rattle.plate_table.specs.Table.{further, entryAfter, headAfter}
 use Rattle.plate_table.specs.Steps.{laidAt, Retabling}
 use Rattle.plate_table.proofs.Laid.{laid-first, laid-none, laid-length, laid-below, laid-above, laid-next, laid-ahead}

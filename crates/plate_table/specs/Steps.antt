@@ -3,7 +3,8 @@ use mathlib.Core.List.{List, _++_}
 use Prim.Native.Nat.{ℕ, _+_, _<_, _≤_}
 use lib.ListN.{length, take, drop}
 use Rattle.picture.specs.Planes.{laid}
-use Rattle.plate_format.specs.Format.{version, count, entrySize, entryAt, entryOf}
+use Rattle.plate_numbers.specs.Numbers.{version, count, entrySize}
+use Rattle.plate_format.specs.Format.{entryAt, entryOf}
 use Rattle.plate_format.specs.Needs.{Tabled}
 
 -- a buffer whose bytes from `at` on are new, and of which the rest is unchanged

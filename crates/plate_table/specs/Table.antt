@@ -3,8 +3,9 @@ use mathlib.Core.Bool.{cond}
 use mathlib.Core.List.{List, _++_}
 use Prim.Native.Nat.{ℕ, _+_}
 use lib.Dec.{ltb}
-use Rattle.plate_format.specs.Format.{version, count, entrySize, entryOf}
-use Rattle.plate_format.specs.Written.{headerBytes, tableOf}
+use Rattle.plate_numbers.specs.Numbers.{version, count, entrySize}
+use Rattle.plate_format.specs.Format.{entryOf}
+use Rattle.plate_written.specs.Written.{headerBytes, tableOf}
 use Rattle.plate_format.specs.declared.Entry.{Entry}
 
 -- an old entry: its body stands one table entry, s bytes, further on

@@ -4,8 +4,8 @@ ghost use mathlib.Core.Path.{_≡_};
 ghost use Prim.Native.Nat.{_+_, _≤_};
 ghost use lib.ListN.{length};
 ghost use Rattle.picture.specs.Planes.{laid};
-ghost use Rattle.plate_format.specs.Format.{entrySize};
-ghost use Rattle.plate_format.specs.Written.{bytes16, bytes32, headerBytes, labelBytes, entryBytes};
+ghost use Rattle.plate_numbers.specs.Numbers.{entrySize};
+ghost use Rattle.plate_written.specs.Written.{bytes16, bytes32, headerBytes, labelBytes, entryBytes};
 ghost use Rattle.plate_table.specs.Steps.{laidAt};
 
 // A number in two bytes, little-endian.
@@ -40,7 +40,7 @@ fn put_label(bytes: &mut [u8], at: usize, v: u16, unit: u16, sheet: u16)
     requires { ⌜ at + length (labelBytes v unit sheet) ≤ length (now bytes) ⌝ }
     ensures { λ _. ⌜ now (bytes .exit) ≡ laidAt at (labelBytes v unit sheet) (now (bytes .entry)) ⌝ }
 {
-    if plate_format::labelled(v) {
+    if plate_numbers::labelled(v) {
         put_u16(bytes, at, unit);
         put_u16(bytes, at + 2, sheet);
     }

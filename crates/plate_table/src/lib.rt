@@ -7,9 +7,10 @@ use plate_format::Entry;
 ghost use mathlib.Core.Path.{_≡_};
 ghost use Prim.Native.Nat.{_+_, _<_};
 ghost use Rattle.picture.specs.Planes.{laid};
-ghost use Rattle.plate_format.specs.Format.{version, count, entrySize, entryAt, entryOf};
+ghost use Rattle.plate_numbers.specs.Numbers.{version, count, entrySize};
+ghost use Rattle.plate_format.specs.Format.{entryAt, entryOf};
 ghost use Rattle.plate_format.specs.Needs.{Tabled};
-ghost use Rattle.plate_format.specs.Written.{entryBytes, tableOf};
+ghost use Rattle.plate_written.specs.Written.{entryBytes, tableOf};
 ghost use Rattle.plate_table.specs.Table.{further, headAfter};
 ghost use Rattle.plate_table.specs.Steps.{laidAt, Retabling};
 
@@ -18,13 +19,13 @@ fn shift_entry(bytes: &mut [u8], i: usize)
     requires { ⌜ Tabled (now bytes) × (i < count (now bytes)) × (entryOf (now bytes) i .offset + entrySize (version (now bytes)) < 4294967296) ⌝ }
     ensures { λ _. ⌜ now (bytes .exit) ≡ laidAt (entryAt (now (bytes .entry)) i) (entryBytes (version (now (bytes .entry))) (further (entrySize (version (now (bytes .entry)))) (entryOf (now (bytes .entry)) i))) (now (bytes .entry)) ⌝ }
 {
-    let v = plate_format::version(bytes);
+    let v = plate_numbers::version(bytes);
     let e = plate_format::read_entry(bytes, i);
     let at = plate_format::entry_at(bytes, i);
     let further = Entry {
         width: e.width,
         height: e.height,
-        offset: e.offset + plate_format::entry_size(v) as u32,
+        offset: e.offset + plate_numbers::entry_size(v) as u32,
         length: e.length,
         unit: e.unit,
         sheet: e.sheet,
@@ -37,7 +38,7 @@ fn shift_entries(bytes: &mut [u8])
     requires { ⌜ Retabling (now bytes) ⌝ }
     ensures { λ _. ⌜ now (bytes .exit) ≡ laidAt 4 (tableOf (version (now (bytes .entry))) (λ i. further (entrySize (version (now (bytes .entry)))) (entryOf (now (bytes .entry)) i)) (count (now (bytes .entry)))) (now (bytes .entry)) ⌝ }
 {
-    let n = plate_format::count(bytes);
+    let n = plate_numbers::count(bytes);
     let mut i = 0;
     while i < n {
         shift_entry(bytes, i);
@@ -50,8 +51,8 @@ pub fn retable(bytes: &mut [u8], new: Entry)
     requires { ⌜ Retabling (now bytes) ⌝ }
     ensures { λ _. ⌜ now (bytes .exit) ≡ laid (headAfter (now (bytes .entry)) new) (now (bytes .entry)) ⌝ }
 {
-    let v = plate_format::version(bytes);
-    let n = plate_format::count(bytes);
+    let v = plate_numbers::version(bytes);
+    let n = plate_numbers::count(bytes);
     let end = plate_format::table_end(bytes);
     shift_entries(bytes);
     put_entry(bytes, end, v, new);

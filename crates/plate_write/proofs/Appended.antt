@@ -12,12 +12,14 @@ use borrow.Author.Tests.{ltb-true}
 use Rattle.picture.specs.Buffers.{copied}
 use Rattle.picture.specs.Planes.{bytesOf, laid}
 use Rattle.picture.specs.Refusal.{wrongSides}
-use Rattle.plate_format.specs.Format.{version, count, entrySize, entryAt, entryOf, bodyOffset, maxCount, wrongUnit}
+use Rattle.plate_numbers.specs.Numbers.{version, count, entrySize, wrongUnit}
+use Rattle.plate_format.specs.Format.{entryAt, entryOf, bodyOffset, maxCount}
 use Rattle.plate_format.specs.Needs.{Tabled}
-use Rattle.plate_format.specs.Written.{headerBytes}
+use Rattle.plate_written.specs.Written.{headerBytes}
 use Rattle.plate_format.specs.declared.Entry.{Entry}
 use Rattle.plate_format.proofs.Rules.{plate-tabled, plate-entry}
-use Rattle.plate_format.proofs.Table.{entry-room, whole-small, same-version, same-count, same-entry}
+use Rattle.plate_numbers.proofs.Versions.{entry-room, whole-small}
+use Rattle.plate_format.proofs.Table.{same-version, same-count, same-entry}
 use Rattle.plate.specs.Lookup.{Beside}
 use Rattle.plate_table.specs.Table.{further, entryAfter, headAfter}
 use Rattle.plate_table.specs.Steps.{laidAt, Retabling}

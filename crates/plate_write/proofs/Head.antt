@@ -5,10 +5,11 @@ use Prim.Native.Nat.{ℕ, _+_, _*_}
 use native.Mathlib.Nat.{add-mul, one-mul}
 use native.Mathlib.Omega.{arith}
 use lib.ListN.{length, drop, length-append}
-use Rattle.plate_format.specs.Format.{version, count, entrySize, bodyOffset}
-use Rattle.plate_format.specs.Written.{headerBytes, tableOf, plateOf}
+use Rattle.plate_numbers.specs.Numbers.{version, count, entrySize}
+use Rattle.plate_format.specs.Format.{bodyOffset}
+use Rattle.plate_written.specs.Written.{headerBytes, tableOf, plateOf}
 use Rattle.plate_format.specs.declared.Entry.{Entry}
-use Rattle.plate_format.proofs.Written.{length-header, length-table}
+use Rattle.plate_written.proofs.Written.{length-header, length-table}
 use Rattle.plate.specs.Lookup.{Beside}
 use Rattle.plate_table.specs.Table.{entryAfter, headAfter}
 use Rattle.plate_room.specs.Room.{newEntry}

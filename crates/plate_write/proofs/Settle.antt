@@ -12,7 +12,7 @@ use Rattle.picture.specs.Planes.{laid}
 use Rattle.picture.specs.Refusal.{firstElse, firstOf, wrongSides, wrongLength}
 use Rattle.picture.proofs.Conditions.{each-passes, right-length}
 use Rattle.picture.proofs.Settled.{read}
-use Rattle.plate_format.specs.Format.{known}
+use Rattle.plate_numbers.specs.Numbers.{known}
 use Rattle.plate.specs.Lookup.{Beside}
 use Rattle.plate_room.specs.Room.{lengthAfter, noRoom, inUse, noPlate}
 use Rattle.plate_room.proofs.Room.{in-plate}

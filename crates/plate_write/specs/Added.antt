@@ -2,8 +2,9 @@
 use mathlib.Core.List.{List, _++_}
 use Prim.Native.Nat.{ℕ, _+_}
 use lib.ListN.{drop}
-use Rattle.plate_format.specs.Format.{version, count, bodyOffset}
-use Rattle.plate_format.specs.Written.{headerBytes, plateOf}
+use Rattle.plate_numbers.specs.Numbers.{version, count}
+use Rattle.plate_format.specs.Format.{bodyOffset}
+use Rattle.plate_written.specs.Written.{headerBytes, plateOf}
 use Rattle.plate.specs.Lookup.{Beside}
 use Rattle.plate_table.specs.Table.{entryAfter}
 use Rattle.plate_room.specs.Room.{newEntry}

@@ -7,7 +7,7 @@ use lib.ListN.{length}
 use Rattle.picture.specs.Answer.{Answer, answered, settled}
 use Rattle.picture.specs.Planes.{laid}
 use Rattle.picture.specs.Refusal.{Check, check, firstOf, pictureChecks}
-use Rattle.plate_format.specs.Format.{known}
+use Rattle.plate_numbers.specs.Numbers.{known}
 use Rattle.plate.specs.Lookup.{Beside}
 use Rattle.plate_room.specs.Room.{inUse, noPlate, lengthAfter, noRoom}
 use Rattle.plate_write.specs.Added.{emptyPlate, added}

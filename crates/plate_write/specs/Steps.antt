@@ -6,7 +6,8 @@ use Prim.Native.Nat.{ℕ, _≤_}
 use lib.ListN.{length}
 use Rattle.picture.specs.Planes.{bytesOf}
 use Rattle.picture.specs.Refusal.{wrongSides}
-use Rattle.plate_format.specs.Format.{version, wrongUnit, isPlate}
+use Rattle.plate_numbers.specs.Numbers.{version, wrongUnit}
+use Rattle.plate_format.specs.Format.{isPlate}
 use Rattle.plate_room.specs.Room.{inUse, noRoom}
 
 -- what the checks leave of a call that is not refused

@@ -67,7 +67,7 @@ pub enum Added {
 pub fn plate_start(buffer: &mut [u8], version: u32) -> Started
     ensures { λ r. ⌜ starts r (now (buffer .exit)) ≡ startOutcome (now (buffer .entry)) version ⌝ }
 {
-    if !plate_format::known(version) {
+    if !plate_numbers::known(version) {
         return Started::NotStarted(StartRefusal::UnknownVersion);
     }
     if buffer.len() < plate_format::HEADER {

@@ -3,7 +3,7 @@ use mathlib.Core.Path.{_≡_}
 use Prim.Native.Nat.{_-_, _<_}
 use native.Mathlib.Omega.{arith}
 use borrow.Author.Needs.{needs}
-use Rattle.plate_format.specs.Format.{count}
+use Rattle.plate_numbers.specs.Numbers.{count}
 use Rattle.plate_format.proofs.Rules.{plate-tabled}
 use Rattle.body_blur.specs.Blur.{plateBlur}
 use Rattle.body_blur.proofs.Fixed.{keeps}

@@ -5,7 +5,8 @@ use Prim.Native.Nat.{_<_}
 use native.Mathlib.Omega.{arith}
 use borrow.Author.Needs.{needs}
 use borrow.Author.Tests.{not-true, not-false, le-leb}
-use Rattle.plate_format.specs.Format.{count, isPlate}
+use Rattle.plate_numbers.specs.Numbers.{count}
+use Rattle.plate_format.specs.Format.{isPlate}
 use Rattle.plate_format.proofs.Rules.{plate-tabled}
 use Rattle.plate.proofs.Settle.{broken, missing}
 use Rattle.plate.proofs.entry_of.Statement.{statement}

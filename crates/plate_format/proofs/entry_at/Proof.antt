@@ -2,7 +2,7 @@
 use Prim.Native.Nat.{_*_, _≤_}
 use native.Mathlib.Omega.{arith}
 use borrow.Author.Needs.{needs}
-use Rattle.plate_format.proofs.Table.{place-fits}
+use Rattle.plate_numbers.proofs.Versions.{place-fits}
 use Rattle.plate_format.proofs.entry_at.Statement.{statement}
 use Rattle.plate_format.proofs.entry_at.Tie as tie
 

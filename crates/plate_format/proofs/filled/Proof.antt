@@ -7,7 +7,8 @@ use native.Mathlib.Omega.{arith}
 use borrow.Author.Needs.{needs}
 use borrow.Author.Tests.{not-true, not-false}
 use lib.ListN.{length}
-use Rattle.plate_format.specs.Format.{count, bodyOffset, entryObeys, allBelow, filled}
+use Rattle.plate_numbers.specs.Numbers.{count}
+use Rattle.plate_format.specs.Format.{bodyOffset, entryObeys, allBelow, filled}
 use Rattle.plate_format.proofs.Tests.{refuted}
 use Rattle.plate_format.proofs.Rules.{filled-is}
 use Rattle.plate_format.proofs.filled.Statement.{statement}

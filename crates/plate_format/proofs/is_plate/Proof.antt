@@ -4,7 +4,8 @@ use mathlib.Core.Bool.{true≢false}
 use native.Mathlib.Omega.{arith}
 use borrow.Author.Needs.{needs}
 use borrow.Author.Tests.{not-true, not-false}
-use Rattle.plate_format.specs.Format.{version, count, known, maxCount, largestWhole, entryAt}
+use Rattle.plate_numbers.specs.Numbers.{version, count, known, largestWhole}
+use Rattle.plate_format.specs.Format.{maxCount, entryAt}
 use Rattle.plate_format.proofs.Tests.{refuted}
 use Rattle.plate_format.proofs.Rules.{rules, table-inside, decides}
 use Rattle.plate_format.proofs.is_plate.Statement.{statement}

@@ -2,7 +2,8 @@
 use mathlib.Core.Path.{_≡_, _∙_, sym}
 use mathlib.Core.Bool.{true}
 use borrow.Author.Needs.{needs}
-use Rattle.plate_format.specs.Format.{labelled, labelAt}
+use Rattle.plate_numbers.specs.Numbers.{labelled}
+use Rattle.plate_format.specs.Format.{labelAt}
 use Rattle.plate_format.proofs.label_at.Statement.{statement}
 use Rattle.plate_format.proofs.label_at.Tie as tie
 

@@ -5,8 +5,10 @@ use Prim.Native.Nat.{_+_, _≤_}
 use native.Mathlib.Omega.{arith}
 use borrow.Author.Needs.{needs}
 use lib.ListN.{length}
-use Rattle.plate_format.specs.Format.{version, labelled, entrySize, entryOf}
-use Rattle.plate_format.proofs.Table.{with-label, entry-room, entry-inside}
+use Rattle.plate_numbers.specs.Numbers.{version, labelled, entrySize}
+use Rattle.plate_format.specs.Format.{entryOf}
+use Rattle.plate_numbers.proofs.Versions.{with-label, entry-room}
+use Rattle.plate_format.proofs.Table.{entry-inside}
 use Rattle.plate_format.proofs.read_entry.Statement.{statement}
 use Rattle.plate_format.proofs.read_entry.Tie as tie
 

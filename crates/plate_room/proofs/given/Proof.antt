@@ -3,7 +3,7 @@ use mathlib.Core.Path.{_≡_, _∙_, sym}
 use mathlib.Core.Bool.{true}
 use native.Mathlib.Omega.{arith}
 use borrow.Author.Needs.{needs}
-use Rattle.plate_format.specs.Format.{labelled}
+use Rattle.plate_numbers.specs.Numbers.{labelled}
 use Rattle.plate_room.specs.Room.{given}
 use Rattle.plate_room.proofs.given.Statement.{statement}
 use Rattle.plate_room.proofs.given.Tie as tie

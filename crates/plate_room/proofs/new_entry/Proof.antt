@@ -6,7 +6,7 @@ use borrow.Author.Needs.{needs}
 use lib.ListN.{length}
 use Rattle.picture.specs.Planes.{bytesOf}
 use Rattle.picture.proofs.Sizes.{full-sized}
-use Rattle.plate_format.specs.Format.{version, entrySize}
+use Rattle.plate_numbers.specs.Numbers.{version, entrySize}
 use Rattle.plate.proofs.Settle.{named}
 use Rattle.plate_room.specs.Room.{lengthAfter}
 use Rattle.plate_room.proofs.Room.{side-small}

@@ -7,9 +7,10 @@ use borrow.Author.Tests.{lt-ltb, le-ltb}
 use lib.ListN.{length}
 use Rattle.picture.specs.Planes.{bytesOf}
 use Rattle.picture.proofs.Sizes.{full-sized, area}
-use Rattle.plate_format.specs.Format.{version, count, maxCount, entrySize, largestWhole}
+use Rattle.plate_numbers.specs.Numbers.{version, count, entrySize, largestWhole}
+use Rattle.plate_format.specs.Format.{maxCount}
 use Rattle.plate_format.proofs.Rules.{plate-tabled}
-use Rattle.plate_format.proofs.Table.{entry-room}
+use Rattle.plate_numbers.proofs.Versions.{entry-room}
 use Rattle.plate_room.specs.Room.{lengthAfter, noRoom}
 use Rattle.plate_room.proofs.Room.{plate-small}
 use Rattle.plate_room.proofs.no_room.Statement.{statement}

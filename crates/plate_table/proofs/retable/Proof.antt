@@ -2,7 +2,8 @@
 use mathlib.Core.Path.{_≡_, ap}
 use native.Mathlib.Nat.{add-mul, one-mul}
 use borrow.Author.Needs.{needs}
-use Rattle.plate_format.specs.Format.{version, count, entrySize, entryAt, bodyOffset}
+use Rattle.plate_numbers.specs.Numbers.{version, count, entrySize}
+use Rattle.plate_format.specs.Format.{entryAt, bodyOffset}
 use Rattle.plate_table.proofs.Retabled.{retabled}
 use Rattle.plate_table.proofs.retable.Statement.{statement}
 use Rattle.plate_table.proofs.retable.Tie as tie

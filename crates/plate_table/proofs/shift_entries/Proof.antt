@@ -3,8 +3,9 @@ use mathlib.Core.Path.{_≡_}
 use Prim.Native.Nat.{_-_, _≤_, _<_}
 use native.Mathlib.Omega.{arith}
 use borrow.Author.Needs.{needs}
-use Rattle.plate_format.specs.Format.{version, count, entrySize, entryOf}
-use Rattle.plate_format.specs.Written.{tableOf}
+use Rattle.plate_numbers.specs.Numbers.{version, count, entrySize}
+use Rattle.plate_format.specs.Format.{entryOf}
+use Rattle.plate_written.specs.Written.{tableOf}
 use Rattle.plate_table.specs.Table.{further}
 use Rattle.plate_table.specs.Steps.{laidAt}
 use Rattle.plate_table.proofs.Retabled.{now-long, now-tabled, now-version, now-count, now-entry, now-more, none-yet}

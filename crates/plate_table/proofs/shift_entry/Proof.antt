@@ -2,9 +2,10 @@
 use mathlib.Core.Path.{_≡_, _∙_, ap}
 use native.Mathlib.Omega.{arith}
 use borrow.Author.Needs.{needs}
-use Rattle.plate_format.specs.Format.{version, entrySize}
+use Rattle.plate_numbers.specs.Numbers.{version, entrySize}
 use Rattle.plate_format.specs.declared.Entry.{Entry}
-use Rattle.plate_format.proofs.Table.{entry-room, entry-inside}
+use Rattle.plate_numbers.proofs.Versions.{entry-room}
+use Rattle.plate_format.proofs.Table.{entry-inside}
 use Rattle.plate_table.proofs.shift_entry.Statement.{statement}
 use Rattle.plate_table.proofs.shift_entry.Tie as tie
 

@@ -5,7 +5,8 @@ use native.Mathlib.Nat.{sub-zero}
 use native.Mathlib.Omega.{arith}
 use borrow.Author.Needs.{needs}
 use lib.ListN.{drop}
-use Rattle.plate_format.specs.Format.{version, entrySize, bodyOffset}
+use Rattle.plate_numbers.specs.Numbers.{version, entrySize}
+use Rattle.plate_format.specs.Format.{bodyOffset}
 use Rattle.plate_format.specs.declared.Entry.{Entry}
 use Rattle.plate.specs.Lookup.{beside}
 use Rattle.plate_table.specs.Steps.{laidAt}

@@ -7,8 +7,8 @@ use borrow.Author.Needs.{needs}
 use borrow.Author.Tests.{not-true, not-false, lt-ltb, le-ltb}
 use lib.ListN.{length}
 use Rattle.picture.specs.Answer.{answered}
-use Rattle.plate_format.specs.Format.{known}
-use Rattle.plate_format.proofs.Table.{known-small}
+use Rattle.plate_numbers.specs.Numbers.{known}
+use Rattle.plate_numbers.proofs.Versions.{known-small}
 use Rattle.plate_write.specs.Outcome.{grown}
 use Rattle.plate_write.proofs.Settle.{unknown, too-small, started}
 use Rattle.plate_write.proofs.plate_start.Statement.{statement}

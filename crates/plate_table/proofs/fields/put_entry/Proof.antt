@@ -3,9 +3,9 @@ use Prim.Native.Nat.{_+_, _≤_}
 use native.Mathlib.Omega.{arith}
 use borrow.Author.Needs.{needs}
 use lib.ListN.{length}
-use Rattle.plate_format.specs.Written.{bytes16, bytes32, entryBytes}
-use Rattle.plate_format.proofs.Table.{entry-room}
-use Rattle.plate_format.proofs.Written.{length-label}
+use Rattle.plate_written.specs.Written.{bytes16, bytes32, entryBytes}
+use Rattle.plate_numbers.proofs.Versions.{entry-room}
+use Rattle.plate_written.proofs.Written.{length-label}
 use Rattle.plate_table.proofs.Laid.{laid-then}
 use Rattle.plate_table.proofs.fields.put_entry.Statement.{statement}
 use Rattle.plate_table.proofs.fields.put_entry.Tie as tie

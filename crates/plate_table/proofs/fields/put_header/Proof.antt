@@ -2,7 +2,7 @@
 use mathlib.Core.Path.{_∙_}
 use native.Mathlib.Omega.{arith}
 use borrow.Author.Needs.{needs}
-use Rattle.plate_format.specs.Written.{bytes16, headerBytes}
+use Rattle.plate_written.specs.Written.{bytes16, headerBytes}
 use Rattle.plate_table.proofs.Laid.{laid-first, laid-then}
 use Rattle.plate_table.proofs.fields.put_header.Statement.{statement}
 use Rattle.plate_table.proofs.fields.put_header.Tie as tie

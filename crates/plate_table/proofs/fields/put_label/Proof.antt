@@ -5,9 +5,9 @@ use Prim.Native.Nat.{_+_, _≤_}
 use native.Mathlib.Omega.{arith}
 use borrow.Author.Needs.{needs}
 use lib.ListN.{length}
-use Rattle.plate_format.specs.Format.{labelled}
-use Rattle.plate_format.specs.Written.{bytes16}
-use Rattle.plate_format.proofs.Written.{label-there, label-none}
+use Rattle.plate_numbers.specs.Numbers.{labelled}
+use Rattle.plate_written.specs.Written.{bytes16}
+use Rattle.plate_written.proofs.Written.{label-there, label-none}
 use Rattle.plate_table.proofs.Laid.{laid-none, laid-then}
 use Rattle.plate_table.proofs.fields.put_label.Statement.{statement}
 use Rattle.plate_table.proofs.fields.put_label.Tie as tie

@@ -5,7 +5,7 @@ use native.Mathlib.Numerals.{add-one}
 use native.Mathlib.Omega.{arith}
 use borrow.Author.Needs.{needs}
 use lib.ListN.{length-set}
-use Rattle.plate_format.specs.Written.{bytes16}
+use Rattle.plate_written.specs.Written.{bytes16}
 use Rattle.plate_table.proofs.Laid.{laid-stored}
 use Rattle.plate_table.proofs.fields.put_u16.Statement.{statement}
 use Rattle.plate_table.proofs.fields.put_u16.Tie as tie

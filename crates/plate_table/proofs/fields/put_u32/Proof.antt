@@ -1,7 +1,7 @@
 -- Two numbers of 16 bits, one after the other, are one of 32.
 use native.Mathlib.Omega.{arith}
 use borrow.Author.Needs.{needs}
-use Rattle.plate_format.specs.Written.{bytes16, bytes32}
+use Rattle.plate_written.specs.Written.{bytes16, bytes32}
 use Rattle.plate_table.proofs.Laid.{laid-then}
 use Rattle.plate_table.proofs.fields.put_u32.Statement.{statement}
 use Rattle.plate_table.proofs.fields.put_u32.Tie as tie

@@ -1,8 +1,8 @@
 -- The test is the definition's.
 use borrow.Author.Needs.{needs}
-use Rattle.plate_format.specs.Format.{knownTo, newest}
-use Rattle.plate_format.proofs.known.Statement.{statement}
-use Rattle.plate_format.proofs.known.Tie as tie
+use Rattle.plate_numbers.specs.Numbers.{knownTo, newest}
+use Rattle.plate_numbers.proofs.known.Statement.{statement}
+use Rattle.plate_numbers.proofs.known.Tie as tie
 
 returns : tie.Need-returns
 unfolding knownTo newest

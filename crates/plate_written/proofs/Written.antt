@@ -8,9 +8,10 @@ use native.Mathlib.Nat.{eq-or-lt-of-le}
 use native.Mathlib.Omega.{arith}
 use lib.ListN.{length, getD, length-append}
 use lib.Seq.{getD-append-add}
-use Rattle.plate_format.specs.Format.{u16At, u32At, version, count, labelled, entrySize, labelAt, entryOf}
-use Rattle.plate_format.specs.Written.{bytes16, bytes32, headerBytes, labelBytes, entryBytes, tableOf, plateOf}
+use Rattle.plate_numbers.specs.Numbers.{u16At, u32At, version, count, labelled, entrySize}
+use Rattle.plate_format.specs.Format.{labelAt, entryOf}
+use Rattle.plate_written.specs.Written.{bytes16, bytes32, headerBytes, labelBytes, entryBytes, tableOf, plateOf}
 use Rattle.plate_format.specs.declared.Entry.{Entry}
 
 -- an entry without a label has 0 for it where its version has none
 abbrev pub Apt : ℕ → Entry → Type 0

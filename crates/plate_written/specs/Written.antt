@@ -2,8 +2,8 @@
 use mathlib.Core.Bool.{cond}
 use mathlib.Core.List.{List, [], _∷_, _++_}
 use Prim.Native.Nat.{ℕ, zero, suc, _/_, _%_}
-use Rattle.plate_format.specs.Format.{labelled}
+use Rattle.plate_numbers.specs.Numbers.{labelled}
 use Rattle.plate_format.specs.declared.Entry.{Entry}
 
 -- little-endian: a number in two bytes, and one in four
 unfoldable pub bytes16 : ℕ → List ℕ

@@ -2,9 +2,9 @@
 use mathlib.Core.Path.{_∙_, sym}
 use borrow.Author.Needs.{needs}
 use borrow.Author.Tests.{not-true, not-false}
-use Rattle.plate_format.specs.Format.{wrongUnit}
-use Rattle.plate_format.proofs.wrong_unit.Statement.{statement}
-use Rattle.plate_format.proofs.wrong_unit.Tie as tie
+use Rattle.plate_numbers.specs.Numbers.{wrongUnit}
+use Rattle.plate_numbers.proofs.wrong_unit.Statement.{statement}
+use Rattle.plate_numbers.proofs.wrong_unit.Tie as tie
 
 returns : tie.Need-returns
 unfolding wrongUnit

@@ -1,8 +1,8 @@
 -- Two numbers of 16 bits make one of 32.
 use borrow.Author.Needs.{needs}
-use Rattle.plate_format.specs.Format.{u32At}
-use Rattle.plate_format.proofs.u32_at.Statement.{statement}
-use Rattle.plate_format.proofs.u32_at.Tie as tie
+use Rattle.plate_numbers.specs.Numbers.{u32At}
+use Rattle.plate_numbers.proofs.u32_at.Statement.{statement}
+use Rattle.plate_numbers.proofs.u32_at.Tie as tie
 
 returns : tie.Need-returns
 unfolding u32At

@@ -1,9 +1,9 @@
 -- Each way out is one case of the definition.
 use mathlib.Core.Path.{_∙_, sym}
 use borrow.Author.Needs.{needs}
-use Rattle.plate_format.specs.Format.{largestWhole}
-use Rattle.plate_format.proofs.largest_whole.Statement.{statement}
-use Rattle.plate_format.proofs.largest_whole.Tie as tie
+use Rattle.plate_numbers.specs.Numbers.{largestWhole}
+use Rattle.plate_numbers.proofs.largest_whole.Statement.{statement}
+use Rattle.plate_numbers.proofs.largest_whole.Tie as tie
 
 returns : tie.Need-returns
 unfolding largestWhole

@@ -1,9 +1,9 @@
 -- Each way out is one case of the definition.
 use mathlib.Core.Path.{_∙_, sym}
 use borrow.Author.Needs.{needs}
-use Rattle.plate_format.proofs.Table.{with-label, without-label}
-use Rattle.plate_format.proofs.entry_size.Statement.{statement}
-use Rattle.plate_format.proofs.entry_size.Tie as tie
+use Rattle.plate_numbers.proofs.Versions.{with-label, without-label}
+use Rattle.plate_numbers.proofs.entry_size.Statement.{statement}
+use Rattle.plate_numbers.proofs.entry_size.Tie as tie
 
 returns : tie.Need-returns
 returns c = sym (with-label _ (sym (c .before .labelled .ensures) ∙ c .if1 .taken))

@@ -3,9 +3,9 @@ use mathlib.Core.Path.{refl}
 use Prim.Native.Nat.{_+_}
 use native.Mathlib.Omega.{arith}
 use borrow.Author.Needs.{needs}
-use Rattle.plate_format.specs.Format.{u16At}
-use Rattle.plate_format.proofs.u16_at.Statement.{statement}
-use Rattle.plate_format.proofs.u16_at.Tie as tie
+use Rattle.plate_numbers.specs.Numbers.{u16At}
+use Rattle.plate_numbers.proofs.u16_at.Statement.{statement}
+use Rattle.plate_numbers.proofs.u16_at.Tie as tie
 
 cast-result : tie.Need-cast-result
 cast-result c = omega (arith, c .shared-slice-known .given (c .before .args .at))

@@ -2,9 +2,9 @@
 use mathlib.Core.Path.{_∙_, sym}
 use borrow.Author.Needs.{needs}
 use Rattle.picture.specs.Sizes.{maxSide}
-use Rattle.plate_format.specs.Format.{largestSide}
-use Rattle.plate_format.proofs.largest_side.Statement.{statement}
-use Rattle.plate_format.proofs.largest_side.Tie as tie
+use Rattle.plate_numbers.specs.Numbers.{largestSide}
+use Rattle.plate_numbers.proofs.largest_side.Statement.{statement}
+use Rattle.plate_numbers.proofs.largest_side.Tie as tie
 
 returns : tie.Need-returns
 unfolding largestSide maxSide

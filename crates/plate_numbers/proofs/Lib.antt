@@ -1,0 +1,2 @@
+-- Laws of a plate's numbers.
+pub mod Versions
