@@ -3,24 +3,133 @@ use picture::FullSize;
 ghost use mathlib.Core.Path.{_≡_};
 ghost use Rattle.picture.specs.Refusal.{firstOf};
 ghost use Rattle.picture.specs.Answer.{answered};
+ghost use Prim.Native.Nat.{_+_, _-_, _*_, _≤_, _<_};
+ghost use lib.ListN.{length, getD};
+ghost use Rattle.picture.specs.Spans.{Run};
 ghost use Rattle.planes.specs.Planar.{planar, interleaved, Converts};
+ghost use Rattle.planes.specs.Places.{Carried, Carries, withPixel, pixelwise, onward, byTurns, Counted, InPlanes};
 ghost use Rattle.planes.specs.Outcome.{convertChecks, toPlanesOutcome, fromPlanesOutcome};
 
-// Writes the planes of a picture, all four in one pass over its pixels.
+// How far apart two channels of a pixel stand, and one channel of two pixels.
+struct Steps {
+    channel: usize,
+    pixel: usize,
+}
+
+// Carries one pixel: its channels are read s bytes apart from p on, and written d bytes apart from q on.
+fn carry_pixel(src: &[u8], p: usize, s: usize, dst: &mut [u8], q: usize, d: usize)
+    requires { ⌜ p + 3 * s < length (now src) ⌝ ∗ ⌜ q + 3 * d < length (now dst) ⌝ ∗ ⌜ (length (now src) ≤ 17179869184) × (length (now dst) ≤ 17179869184) ⌝ }
+    ensures { λ _. ⌜ now (dst .exit) ≡ withPixel (now (src .entry)) p s (now (dst .entry)) q d ⌝ }
+{
+    dst[q] = src[p];
+    dst[q + d] = src[p + s];
+    dst[q + 2 * d] = src[p + 2 * s];
+    dst[q + 3 * d] = src[p + 3 * s];
+}
+
+// Carries the pixels from `from` up to `to` from one form to the other.
+fn carry(src: &[u8], s: Steps, dst: &mut [u8], d: Steps, from: usize, to: usize)
+    requires { ⌜ Carries (pixelwise (s .channel) (s .pixel)) (pixelwise (d .channel) (d .pixel)) from to (now src) (now dst) ⌝ }
+    ensures { λ _. ⌜ Carried (pixelwise (s .channel) (s .pixel)) (pixelwise (d .channel) (d .pixel)) (now (src .entry)) (now (dst .exit)) (4 * to) ⌝ }
+{
+    let mut i = from;
+    while i < to {
+        carry_pixel(src, i * s.pixel, s.channel, dst, i * d.pixel, d.channel);
+        i += 1;
+    }
+}
+
+// Parts 320 bytes by turns, one to the first half and one to the second.
+fn part(src: &[u8], from: usize, dst: &mut [u8])
+    requires { ⌜ from + 320 ≤ length (now src) ⌝ ∗ ⌜ length (now src) ≤ 17179869184 ⌝ ∗ ⌜ length (now dst) ≡ 320 ⌝ }
+    ensures { λ _. ⌜ Carried (onward from) byTurns (now (src .entry)) (now (dst .exit)) 320 ⌝ }
+{
+    let mut k = 0;
+    while k < 160 {
+        dst[k] = src[from + 2 * k];
+        dst[160 + k] = src[from + 2 * k + 1];
+        k += 1;
+    }
+}
+
+// Lays the bytes from `from` up to `end` over those from `to` on.
+fn lay(src: &[u8], from: usize, end: usize, dst: &mut [u8], to: usize)
+    requires { ⌜ from ≤ end ⌝ ∗ ⌜ end ≤ length (now src) ⌝ ∗ ⌜ length (now src) ≤ 320 ⌝ ∗ ⌜ to + end ≤ length (now dst) + from ⌝ ∗ ⌜ length (now dst) ≤ 17179869184 ⌝ }
+    ensures { λ _. ⌜ Run 0 (now (dst .entry)) (now (dst .exit)) to (end - from) (λ k. getD (now (src .entry)) (from + k) 0) ⌝ }
+{
+    let mut k = 0;
+    while from + k < end {
+        dst[to + k] = src[from + k];
+        k += 1;
+    }
+}
+
+// Takes 80 pixels apart, those from m on, and lays 64 bytes in each plane; the first two planes are 16 bytes ahead of the others.
+fn split_block(src: &[u8], dst: &mut [u8], n: usize, m: usize)
+    requires { ⌜ Counted n (now src) (now dst) ⌝ ∗ ⌜ m + 80 ≤ n ⌝ ∗ ⌜ InPlanes n m 0 (now src) (now dst) ⌝ }
+    ensures { λ _. ⌜ InPlanes n (m + 64) 0 (now (src .entry)) (now (dst .exit)) ⌝ }
+{
+    let mut turns = [0u8; 320];
+    let mut parts = [0u8; 320];
+    part(src, 4 * m, &mut turns);
+    part(&turns, 0, &mut parts);
+    lay(&parts, 16, 80, dst, m + 16);
+    lay(&parts, 96, 160, dst, n + m + 16);
+    lay(&parts, 160, 224, dst, 2 * n + m);
+    lay(&parts, 240, 304, dst, 3 * n + m);
+}
+
+// Takes a picture of 1024 pixels or more apart by blocks, from pixel 48 on; answers up to where all pixels are in the planes.
+fn split_blocks(src: &[u8], dst: &mut [u8], n: usize) -> usize
+    requires { ⌜ Counted n (now src) (now dst) ⌝ }
+    ensures { λ r. ⌜ (r ≤ n) × Carried (pixelwise 1 4) (pixelwise n 1) (now (src .entry)) (now (dst .exit)) (4 * r) ⌝ }
+{
+    if n < 1024 {
+        return 0;
+    }
+    carry(
+        src,
+        Steps {
+            channel: 1,
+            pixel: 4,
+        },
+        dst,
+        Steps {
+            channel: n,
+            pixel: 1,
+        },
+        0,
+        64,
+    );
+    let mut m = 48;
+    while m + 80 <= n {
+        split_block(src, dst, n, m);
+        m += 64;
+    }
+    m
+}
+
+// Writes the planes of a picture: most of it by blocks, and the pixels that are left one by one.
 pub fn split(src: &[u8], dst: &mut [u8], size: FullSize)
     requires { ⌜ Converts size (now src) (now dst) ⌝ }
     ensures { λ _. ⌜ now (dst .exit) ≡ planar (size .w) (size .h) (now (src .entry)) ⌝ }
 {
-    let n = size.width() * size.height();
-    let mut i = 0;
-    while i < n {
-        let o = 4 * i;
-        dst[i] = src[o];
-        dst[n + i] = src[o + 1];
-        dst[2 * n + i] = src[o + 2];
-        dst[3 * n + i] = src[o + 3];
-        i += 1;
-    }
+    let n = size.bytes() / 4;
+    let m = split_blocks(src, dst, n);
+    carry(
+        src,
+        Steps {
+            channel: 1,
+            pixel: 4,
+        },
+        dst,
+        Steps {
+            channel: n,
+            pixel: 1,
+        },
+        m,
+        n,
+    );
 }
 
 // Writes the picture of four planes, in one pass over its pixels.
@@ -28,16 +137,21 @@ pub fn join(src: &[u8], dst: &mut [u8], size: FullSize)
     requires { ⌜ Converts size (now src) (now dst) ⌝ }
     ensures { λ _. ⌜ now (dst .exit) ≡ interleaved (size .w) (size .h) (now (src .entry)) ⌝ }
 {
-    let n = size.width() * size.height();
-    let mut i = 0;
-    while i < n {
-        let o = 4 * i;
-        dst[o] = src[i];
-        dst[o + 1] = src[n + i];
-        dst[o + 2] = src[2 * n + i];
-        dst[o + 3] = src[3 * n + i];
-        i += 1;
-    }
+    let n = size.bytes() / 4;
+    carry(
+        src,
+        Steps {
+            channel: n,
+            pixel: 1,
+        },
+        dst,
+        Steps {
+            channel: 1,
+            pixel: 4,
+        },
+        0,
+        n,
+    );
 }
 
 // The first of refusals 1, 2 and 3 that fits, 0 where none does; of the lengths.
