@@ -71,11 +71,14 @@ module _ (t : ℕ) where
     abbrev scratch : List ℕ
     scratch = h .halve-form .last .1 .0
 
+    same-bytes : pixelBytes level ≡ levelBytes level
+    same-bytes = pixel-bytes (level .w) (level .h)
+
     picture-is : length picture ≡ pixelBytes level
-    picture-is = h .halve-form .kept .0 ∙ begin .pre .1 .pictured .exact ∙ sym (pixel-bytes (level .w) (level .h))
+    picture-is = h .halve-form .kept .0 ∙ begin .pre .1 .pictured .exact ∙ sym same-bytes
 
     scratch-is : length scratch ≡ pixelBytes level
-    scratch-is = h .halve-form .kept .1 .0 ∙ begin .pre .1 .scratch-is ∙ sym (pixel-bytes (level .w) (level .h))
+    scratch-is = h .halve-form .kept .1 .0 ∙ begin .pre .1 .scratch-is ∙ sym same-bytes
 
     below-is : size .bytes .result ≡ pixelBytes (size .before .half .result)
     below-is = size .bytes .ensures ∙ sym (pixel-bytes (size .before .half .result .w) (size .before .half .result .h))
@@ -91,9 +94,6 @@ module _ (t : ℕ) where
 
     whole : (l : List ℕ) → length l ≡ pixelBytes level → (part : List ℕ) → length part ≡ length (take (size .bytes .result) l) → length (part ++ drop (size .bytes .result) l) ≡ pixelBytes level
     whole = part-back ofPixels level (begin .pre .1 .pictured .sized) (size .before .half .ensures) below-is
-
-    same-bytes : pixelBytes level ≡ levelBytes level
-    same-bytes = pixel-bytes (level .w) (level .h)
 
     smaller : Sized (size .before .half .result)
     smaller = part-sized ofPixels level (begin .pre .1 .pictured .sized) (size .before .half .ensures)
