@@ -15,6 +15,7 @@ use Rattle.composite.specs.Channels.{shadowAlpha}
 use Rattle.composite.specs.Shadow.{tinted, shadowOf}
 use Rattle.composite.specs.Plane.{planeIn, alphasIn, through, shadowAlphas, tintOf, tintedBy, tintOn, shadowOn}
 use Rattle.composite.specs.declared.Colour.{Colour}
+use Rattle.composite.specs.declared.Tint.{Tint}
 
 pub plane-here : (bytes : List ℕ) (w i : ℕ) → planeIn bytes w (i % w) (i / w) ≡ getD bytes i 0
 unfolding planeIn
@@ -35,11 +36,14 @@ pub alphas-at : (alpha : Float) (plane : List ℕ) (w h x y : ℕ) → length pl
 unfolding planeIn shadowAlphas
 alphas-at alpha plane w h x y e lx ly = getD-build (length plane) _ (y * w + x) (omega (arith, pixel-fits w h x y lx ly, mul-comm w h))
 
--- so a shadow of those alphas is the shadow that the plane casts
-pub laid-shadow : (composite : Bool) (colour : Colour) (F : ℕ → Plane) (plane : List ℕ) (w h : ℕ) → length plane ≡ w * h → (c x y : ℕ) → x < w → y < h →
-    tintOn composite (tintOf colour) F (planeIn (shadowAlphas (colour .alpha) plane) w) c x y ≡ shadowOn composite colour F (planeIn plane w) c x y
-unfolding tintOn
-laid-shadow composite colour F plane w h e c x y lx ly = rw (alphas-at (colour .alpha) plane w h x y e lx ly)
+-- so a shadow of those alphas, written in whichever form, is the shadow that the plane casts
+module _ (w h : ℕ) (write : (ℕ → Plane) → List ℕ) (same : (F G : ℕ → Plane) → ((c x y : ℕ) → c < 4 → x < w → y < h → F c x y ≡ G c x y) → write F ≡ write G) where
+  pub shadow-written : (F : ℕ → Plane) (colour : Colour) (plane : List ℕ) → length plane ≡ w * h → {composite : Bool} (b : Bool) {tint : Tint} {alphas out : List ℕ} →
+      composite ≡ b → tint ≡ tintOf colour → alphas ≡ shadowAlphas (colour .alpha) plane → out ≡ write (tintOn b tint F (planeIn alphas w)) →
+      out ≡ write (shadowOn composite colour F (planeIn plane w))
+  unfolding tintOn
+  shadow-written F colour plane e b is tint alphas out =
+      out ∙ rw (tint, alphas, is) (same _ _ (λ c x y lc lx ly. rw (alphas-at (colour .alpha) plane w h x y e lx ly)))
 
 -- the tint of a colour gives its shadow's channels
 pub as-tint : (colour : Colour) (a c : ℕ) → shadowOf colour a c ≡ tintedBy (tintOf colour) (shadowAlpha (colour .alpha) a) c

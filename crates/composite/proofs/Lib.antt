@@ -2,6 +2,5 @@
 pub mod Between
 pub mod Units
 pub mod Whole
-pub mod Table
 pub mod Writing
 pub mod Laid

@@ -32,10 +32,6 @@ shadowOf colour a c = tinted colour (shadowAlpha (colour .alpha) a) c
 unfoldable pub coloured : Colour → ℕ → ℕ → List ℕ → List ℕ
 coloured colour w h copy = painted w h (λ c x y. shadowOf colour (chan copy w 3 x y) c)
 
--- the copy through a table of 256 pixels, one for each alpha
-unfoldable pub looked : List ℕ → ℕ → ℕ → List ℕ → List ℕ
-looked table w h copy = painted w h (λ c x y. chan table 256 c (chan copy w 3 x y) 0)
-
 -- one pixel over another
 abbrev pub overPixel : Pixel → Pixel → Pixel
 overPixel src dst = record {

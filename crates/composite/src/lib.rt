@@ -1,7 +1,6 @@
 // The coloured shadow, and the original over it.
 use picture::FullSize;
 use picture::Pixel;
-use pixels::copy_bytes;
 use pixels::pixel_at;
 use pixels::premultiply;
 use pixels::set_pixel;
@@ -14,12 +13,12 @@ ghost use mathlib.Core.Bool.{true, false};
 ghost use Prim.Native.Nat.{_*_};
 ghost use Rattle.picture.specs.Build.{build};
 ghost use Rattle.picture.specs.Planes.{chan, painted};
-ghost use Rattle.picture.specs.Sizes.{fullBytes, Pictured};
+ghost use Rattle.picture.specs.Sizes.{Pictured};
 ghost use Rattle.binary32.specs.Ranges.{outsideUnit, nonneg};
 ghost use Rattle.binary32.specs.Round.{top32};
 ghost use Rattle.composite.specs.Channels.{norm, normByte, atMostOne, shadowAlpha, over};
 ghost use Rattle.pixels.specs.Pixels.{pixel};
-ghost use Rattle.composite.specs.Shadow.{InUnit, shadowOf, looked, coloured, overPixel, composed, written};
+ghost use Rattle.composite.specs.Shadow.{InUnit, overPixel};
 ghost use Rattle.composite.specs.Plane.{planeIn, alphasIn, through, shadowAlphas, tintOf, tintedBy, tintOn, shadowOn};
 
 // A colour, its components from 0 to 1.
@@ -83,88 +82,6 @@ pub fn compose_src_over(src: Pixel, dst: Pixel) -> Pixel
         g: src_over_channel(src.g, dst.g, src.a),
         b: src_over_channel(src.b, dst.b, src.a),
         a: src_over_channel(src.a, dst.a, src.a),
-    }
-}
-
-// The shadow's pixel where the copy has this alpha.
-fn shadow_pixel(colour: Colour, alpha: u8) -> Pixel
-    requires { ⌜ InUnit colour ⌝ }
-    ensures { λ r. ⌜ r ≡ pixel (shadowOf colour alpha) ⌝ }
-{
-    let a = shadow_alpha(colour.alpha, alpha);
-    Pixel {
-        r: premultiply(norm_to_u8(colour.red), a),
-        g: premultiply(norm_to_u8(colour.green), a),
-        b: premultiply(norm_to_u8(colour.blue), a),
-        a,
-    }
-}
-
-// The shadow's pixel for each alpha: a row of 256, made once for a call.
-fn shadow_table(table: &mut [u8], colour: Colour)
-    requires { ⌜ length (now table) ≡ 1024 ⌝ ∗ ⌜ InUnit colour ⌝ }
-    ensures { λ _. ⌜ now (table .exit) ≡ painted 256 1 (λ c a y. shadowOf colour a c) ⌝ }
-{
-    let mut i = 0;
-    while i < 256 {
-        set_pixel(table, i, shadow_pixel(colour, i as u8));
-        i += 1;
-    }
-}
-
-// Puts the table's pixel of its alpha in each pixel's place.
-fn look_up(copy: &mut [u8], size: FullSize, table: &[u8])
-    requires { ⌜ Pictured (size .w) (size .h) (now copy) ⌝ ∗ ⌜ length (now table) ≡ 1024 ⌝ }
-    ensures { λ _. ⌜ now (copy .exit) ≡ looked (now (table .entry)) (size .w) (size .h) (now (copy .entry)) ⌝ }
-{
-    let n = size.bytes() / 4;
-    let mut i = 0;
-    while i < n {
-        let alpha = pixel_at(copy, i).a as usize;
-        set_pixel(copy, i, pixel_at(table, alpha));
-        i += 1;
-    }
-}
-
-fn colour_copy(copy: &mut [u8], size: FullSize, colour: Colour)
-    requires { ⌜ Pictured (size .w) (size .h) (now copy) ⌝ ∗ ⌜ InUnit colour ⌝ }
-    ensures { λ _. ⌜ now (copy .exit) ≡ coloured colour (size .w) (size .h) (now (copy .entry)) ⌝ }
-{
-    let mut table = [0u8; 1024];
-    shadow_table(&mut table, colour);
-    look_up(copy, size, &table);
-}
-
-// The picture over its shadow, pixel by pixel.
-fn compose(picture: &mut [u8], size: FullSize, shadow: &[u8])
-    requires { ⌜ Pictured (size .w) (size .h) (now picture) ⌝ ∗ ⌜ length (now shadow) ≡ fullBytes size ⌝ }
-    ensures { λ _. ⌜ now (picture .exit) ≡ composed (size .w) (size .h) (now (picture .entry)) (now (shadow .entry)) ⌝ }
-{
-    let n = size.bytes() / 4;
-    let mut i = 0;
-    while i < n {
-        let out = compose_src_over(pixel_at(picture, i), pixel_at(shadow, i));
-        set_pixel(picture, i, out);
-        i += 1;
-    }
-}
-
-// Colours the shadow, and lays the original over it where that is wanted.
-pub fn write_colored_shadow(
-    copy: &mut [u8],
-    picture: &mut [u8],
-    size: FullSize,
-    colour: Colour,
-    composite: bool,
-)
-    requires { ⌜ Pictured (size .w) (size .h) (now copy) ⌝ ∗ ⌜ length (now picture) ≡ fullBytes size ⌝ ∗ ⌜ InUnit colour ⌝ }
-    ensures { λ _. ⌜ now (picture .exit) ≡ written composite (size .w) (size .h) (now (picture .entry)) (coloured colour (size .w) (size .h) (now (copy .entry))) ⌝ }
-{
-    colour_copy(copy, size, colour);
-    if composite {
-        compose(picture, size, copy);
-    } else {
-        copy_bytes(picture, copy);
     }
 }
 
@@ -265,7 +182,7 @@ fn tint_pixels(picture: &mut [u8], size: FullSize, alphas: &[u8], tint: Tint)
 }
 
 // Colours the shadow that a plane of alphas casts, and lays the original over it where that is wanted.
-pub fn write_shadow(
+pub fn write_colored_shadow(
     plane: &mut [u8],
     picture: &mut [u8],
     size: FullSize,

@@ -84,7 +84,7 @@ pub fn apply_drop_shadow(
     composite::take_alphas(plane, picture);
     cast_plane(plane, size, scratch, weights, n, mode, recipe);
     let colour = colour_of(recipe);
-    composite::write_shadow(plane, picture, size, colour, composite);
+    composite::write_colored_shadow(plane, picture, size, colour, composite);
 }
 
 // Refusal 3's condition, of both work buffers.

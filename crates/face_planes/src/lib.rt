@@ -4,7 +4,8 @@ ghost use mathlib.Core.Path.{_≡_};
 ghost use Rattle.picture.specs.Answer.{answered, lent, lentCopy};
 ghost use Rattle.planes.specs.Outcome.{toPlanesOutcome, fromPlanesOutcome};
 ghost use Rattle.plane_shift.specs.Shifted.{shiftPlanesOutcome};
-ghost use Rattle.plane_filters.specs.Outcome.{blurPlanesOutcome, shadowPlanesOutcome};
+ghost use Rattle.plane_filters.specs.Outcome.{blurPlanesOutcome};
+ghost use Rattle.plane_shadow.specs.Outcome.{shadowPlanesOutcome};
 ghost use Rattle.face_filters.specs.Words.{recipe, flag};
 
 // The planes of a picture of w by h pixels, as `to_planes` writes them.
@@ -85,7 +86,7 @@ pub extern "C" fn corbelrush_shadow_planes(
         blue,
         alpha,
     };
-    plane_filters::shadow_planes(
+    plane_shadow::shadow_planes(
         planes,
         w,
         h,

@@ -1,4 +1,4 @@
--- Laws of the blur and the shadow on four planes.
+-- Laws of the blur on four planes.
 pub mod Native
 pub mod Worked
 pub mod Same

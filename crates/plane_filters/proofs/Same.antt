@@ -1,4 +1,4 @@
--- Planes blurred, or with their shadow, and converted back are the picture blurred, or with its shadow, with the same refusals.
+-- Planes blurred and converted back are the picture blurred, with the same refusals.
 use mathlib.Core.Path.{_≡_, refl}
 use mathlib.Core.Bool.{Bool, true, false, cond}
 use mathlib.Core.List.{List}
@@ -8,21 +8,17 @@ use lib.ListN.{length}
 use Rattle.picture.specs.Planes.{bytesOf, cleared}
 use Rattle.picture.specs.Modes.{modeOf}
 use Rattle.picture.specs.Refusal.{firstOf}
-use Rattle.picture.specs.Answer.{Lent, lent, LentCopy, lentCopy}
+use Rattle.picture.specs.Answer.{Lent, lent}
 use Rattle.picture.specs.declared.EdgeMode.{EdgeMode}
 use Rattle.picture.proofs.Planes.{length-painted}
 use Rattle.planes.specs.Planar.{planar, interleaved}
 use Rattle.planes.proofs.Same.{seen, same-answer}
-use Rattle.composite.specs.Shadow.{coloured, composed, written}
 use Rattle.gaussian_blur.specs.Blurred.{blurred}
 use Rattle.gaussian_blur.specs.Outcome.{blurChecks, aboveZero, blurredOrKept, blurOutcome}
-use Rattle.drop_shadow.specs.Shadowed.{shadowed}
-use Rattle.drop_shadow.specs.Outcome.{shadowChecks, shadowOutcome}
-use Rattle.drop_shadow.specs.declared.Recipe.{Recipe}
-use Rattle.plane_filters.specs.Outcome.{blurPlanesOutcome, shadowPlanesOutcome}
+use Rattle.plane_filters.specs.Outcome.{blurPlanesOutcome}
 
 module _ (w h : ℕ) (p : List ℕ) (e : length p ≡ bytesOf w h) where
-  -- both keep the length
+  -- the length is kept
   pub blur-long : (mode : EdgeMode) (weights : List Float) (n : ℕ) (strength : Float) → length (blurredOrKept mode weights n strength w h p) ≡ bytesOf w h
   unfolding blurredOrKept blurred
   blur-long mode weights n strength = by (aboveZero strength)
@@ -31,17 +27,9 @@ module _ (w h : ℕ) (p : List ℕ) (e : length p ≡ bytesOf w h) where
       by true = length-painted w h _
       by false = e
 
-  pub shadow-long : (mode : EdgeMode) (weights : List Float) (n : ℕ) (recipe : Recipe) (composite : Bool) → length (shadowed mode weights n recipe composite w h p) ≡ bytesOf w h
-  unfolding shadowed written composed coloured
-  shadow-long mode weights n recipe true = length-painted w h _
-  shadow-long mode weights n recipe false = length-painted w h _
-
   -- the lent buffers, with the planes converted
   abbrev asPicture : Lent → Lent
   asPicture l = lent (interleaved w h (l .picture)) (l .scratch)
-
-  abbrev asPictureCopy : LentCopy → LentCopy
-  asPictureCopy l = lentCopy (interleaved w h (l .picture)) (l .scratch) (l .copy)
 
   pub blur-same : (s : List ℕ) (weights : List Float) (n : ℕ) (strength : Float) (edge : ℕ) →
       seen asPicture (blurPlanesOutcome (planar w h p) w h s weights n strength edge) ≡ blurOutcome p w h s weights n strength edge
@@ -49,11 +37,3 @@ module _ (w h : ℕ) (p : List ℕ) (e : length p ≡ bytesOf w h) where
   blur-same s weights n strength edge =
       same-answer w h (blurredOrKept (modeOf edge) weights n strength w h) p e (blur-long (modeOf edge) weights n strength)
       (λ len. firstOf (blurChecks len w h (length s) weights n strength edge)) asPicture (λ q. lent q s) (λ q. lent q (cleared (bytesOf w h) s)) (λ q. refl) (λ q. refl)
-
-  pub shadow-same : (s c : List ℕ) (weights : List Float) (n edge : ℕ) (recipe : Recipe) (composite : Bool) →
-      seen asPictureCopy (shadowPlanesOutcome (planar w h p) w h s c weights n edge recipe composite) ≡ shadowOutcome p w h s c weights n edge recipe composite
-  unfolding shadowPlanesOutcome shadowOutcome
-  shadow-same s c weights n edge recipe composite =
-      same-answer w h (shadowed (modeOf edge) weights n recipe composite w h) p e (shadow-long (modeOf edge) weights n recipe composite)
-      (λ len. firstOf (shadowChecks len w h (length s) (length c) weights n edge recipe)) asPictureCopy
-      (λ q. lentCopy q s c) (λ q. lentCopy q (cleared (bytesOf w h) s) (cleared (bytesOf w h) c)) (λ q. refl) (λ q. refl)

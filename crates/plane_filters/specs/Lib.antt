@@ -1,2 +1,2 @@
--- What the blur and the shadow on four planes answer.
+-- What the blur on four planes answers.
 pub mod Outcome

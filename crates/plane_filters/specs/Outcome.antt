@@ -1,5 +1,4 @@
--- What the entries on four planes answer and leave behind: what those on a picture do, with the work done on planes.
-use mathlib.Core.Bool.{Bool}
+-- What the entry `blur_planes` answers and leaves behind: what that on a picture does, with the work done on planes.
 use mathlib.Core.List.{List}
 use Prim.Native.Nat.{ℕ}
 use lib.ListN.{length}
@@ -7,12 +6,9 @@ use lib.Ieee.{Float}
 use Rattle.picture.specs.Planes.{bytesOf, cleared}
 use Rattle.picture.specs.Modes.{modeOf}
 use Rattle.picture.specs.Refusal.{firstOf}
-use Rattle.picture.specs.Answer.{Answer, Lent, lent, LentCopy, lentCopy, settled}
+use Rattle.picture.specs.Answer.{Answer, Lent, lent, settled}
 use Rattle.planes.specs.Planar.{onPlanes}
 use Rattle.gaussian_blur.specs.Outcome.{blurChecks, blurredOrKept}
-use Rattle.drop_shadow.specs.Shadowed.{shadowed}
-use Rattle.drop_shadow.specs.Outcome.{shadowChecks}
-use Rattle.drop_shadow.specs.declared.Recipe.{Recipe}
 
 -- Blur on planes: the refusals of Blur; or the planes blurred, and the scratch zero where it was used
 unfoldable pub blurPlanesOutcome : List ℕ → ℕ → ℕ → List ℕ → List Float → ℕ → Float → ℕ → Answer Lent
@@ -20,10 +16,3 @@ blurPlanesOutcome p w h s weights n strength edge =
     settled (firstOf (blurChecks (length p) w h (length s) weights n strength edge))
     (lent p s)
     (lent (onPlanes w h (blurredOrKept (modeOf edge) weights n strength w h) p) (cleared (bytesOf w h) s))
-
--- Shadow on planes: the refusals of Shadow; or the planes with their shadow, and both work buffers zero where they were used
-unfoldable pub shadowPlanesOutcome : List ℕ → ℕ → ℕ → List ℕ → List ℕ → List Float → ℕ → ℕ → Recipe → Bool → Answer LentCopy
-shadowPlanesOutcome p w h s c weights n edge recipe composite =
-    settled (firstOf (shadowChecks (length p) w h (length s) (length c) weights n edge recipe))
-    (lentCopy p s c)
-    (lentCopy (onPlanes w h (shadowed (modeOf edge) weights n recipe composite w h) p) (cleared (bytesOf w h) s) (cleared (bytesOf w h) c))

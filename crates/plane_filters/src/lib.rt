@@ -1,20 +1,15 @@
-// The blur and the shadow on four planes, with the refusals of those on a picture.
-use drop_shadow::Recipe;
+// The blur on four planes, with the refusals of that on a picture.
 use passes::Form;
 use picture::EdgeMode;
 use picture::FullSize;
 ghost use mathlib.Core.Path.{_≡_};
-ghost use lib.ListN.{length};
 ghost use Rattle.picture.specs.Planes.{bytesOf, cleared};
-ghost use Rattle.picture.specs.Sizes.{fullBytes};
 ghost use Rattle.picture.specs.Refusal.{firstOf};
-ghost use Rattle.picture.specs.Answer.{answered, lent, lentCopy};
+ghost use Rattle.picture.specs.Answer.{answered, lent};
 ghost use Rattle.planes.specs.Planar.{onPlanes};
 ghost use Rattle.gaussian_blur.specs.Needs.{BlurReady, BlurAccepted};
 ghost use Rattle.gaussian_blur.specs.Outcome.{blurChecks, blurredOrKept};
-ghost use Rattle.drop_shadow.specs.Shadowed.{shadowed};
-ghost use Rattle.drop_shadow.specs.Needs.{ShadowReady, ShadowAccepted};
-ghost use Rattle.plane_filters.specs.Outcome.{blurPlanesOutcome, shadowPlanesOutcome};
+ghost use Rattle.plane_filters.specs.Outcome.{blurPlanesOutcome};
 
 // Planes of fewer bytes to a row are converted: line by line they cost more, up to 1.67 of a picture's blur at 16 square and 1.09 at 128, and with
 // two decimations 3.2 and 1.25; at 256 square it is 1.05 and 0.99.
@@ -167,111 +162,5 @@ pub fn blur_planes(
     let size = picture::full_size(w, h);
     let mode = picture::edge_mode(edge);
     blur_planes_accepted(planes, scratch, size, n, weights, mode, strength);
-    0
-}
-
-// Casts the shadow of planes as that of the picture that they are: it is made in the scratch, with the planes' own bytes as its scratch.
-fn apply_shadow_planes(
-    planes: &mut [u8],
-    size: FullSize,
-    scratch: &mut [u8],
-    copy: &mut [u8],
-    weights: &[f32],
-    n: u32,
-    mode: EdgeMode,
-    recipe: Recipe,
-    composite: bool,
-)
-    requires { ⌜ ShadowReady size (now scratch) (now copy) (now weights) recipe ⌝ ∗ ⌜ length (now planes) ≡ fullBytes size ⌝ }
-    ensures { λ _. ⌜ now (planes .exit) ≡ onPlanes (size .w) (size .h) (shadowed mode (now (weights .entry)) n recipe composite (size .w) (size .h)) (now (planes .entry)) ⌝ }
-{
-    planes::join(planes, scratch, size);
-    drop_shadow::apply_drop_shadow(
-        scratch,
-        size,
-        planes,
-        copy,
-        weights,
-        n,
-        mode,
-        recipe,
-        composite,
-    );
-    planes::split(scratch, planes, size);
-}
-
-// An accepted call: the planes with their shadow, and the work buffers zero where they were used.
-fn shadow_planes_accepted(
-    planes: &mut [u8],
-    size: FullSize,
-    scratch: &mut [u8],
-    copy: &mut [u8],
-    weights: &[f32],
-    n: u32,
-    mode: EdgeMode,
-    recipe: Recipe,
-    composite: bool,
-)
-    requires { ⌜ ShadowAccepted size (now planes) (now scratch) (now copy) (now weights) recipe ⌝ }
-    ensures { λ _. ⌜ lentCopy (now (planes .exit)) (now (scratch .exit)) (now (copy .exit)) ≡ lentCopy (onPlanes (size .w) (size .h) (shadowed mode (now (weights .entry)) n recipe composite (size .w) (size .h)) (now (planes .entry))) (cleared (bytesOf (size .w) (size .h)) (now (scratch .entry))) (cleared (bytesOf (size .w) (size .h)) (now (copy .entry))) ⌝ }
-{
-    let k = size.bytes();
-    apply_shadow_planes(
-        planes,
-        size,
-        &mut scratch[..k],
-        &mut copy[..k],
-        weights,
-        n,
-        mode,
-        recipe,
-        composite,
-    );
-    picture::clear(scratch, k);
-    picture::clear(copy, k);
-}
-
-// Casts the shadow of four planes of w by h where nothing is refused, and lays the planes over it where `composite` says so.
-pub fn shadow_planes(
-    planes: &mut [u8],
-    w: u32,
-    h: u32,
-    scratch: &mut [u8],
-    copy: &mut [u8],
-    weights: &[f32],
-    n: u32,
-    edge: u32,
-    recipe: Recipe,
-    composite: bool,
-) -> u32
-    ensures { λ r. ⌜ answered r (lentCopy (now (planes .exit)) (now (scratch .exit)) (now (copy .exit))) ≡ shadowPlanesOutcome (now (planes .entry)) w h (now (scratch .entry)) (now (copy .entry)) (now (weights .entry)) n edge recipe composite ⌝ }
-{
-    let r = drop_shadow::shadow_refusal(
-        planes.len(),
-        w,
-        h,
-        scratch.len(),
-        copy.len(),
-        weights,
-        n,
-        edge,
-        recipe,
-    );
-    if r != 0 {
-        return r;
-    }
-    let size = picture::full_size(w, h);
-    let mode = picture::edge_mode(edge);
-    shadow_planes_accepted(
-        planes,
-        size,
-        scratch,
-        copy,
-        weights,
-        n,
-        mode,
-        recipe,
-        composite,
-    );
     0
 }

@@ -13,8 +13,8 @@ use Rattle.plane_shift.proofs.shift_planes.Reads as shift
 use Rattle.plane_shift.proofs.shift_planes.Kinds as shift-kinds
 use Rattle.plane_filters.proofs.blur_planes.Reads as blur
 use Rattle.plane_filters.proofs.blur_planes.Kinds as blur-kinds
-use Rattle.plane_filters.proofs.shadow_planes.Reads as shadow
-use Rattle.plane_filters.proofs.shadow_planes.Kinds as shadow-kinds
+use Rattle.plane_shadow.proofs.shadow_planes.Reads as shadow
+use Rattle.plane_shadow.proofs.shadow_planes.Kinds as shadow-kinds
 
 -- of four planes of w by h: r, g and b at each place are at most a there
 abbrev pub PremultipliedPlanes : ℕ → ℕ → List ℕ → Type 0

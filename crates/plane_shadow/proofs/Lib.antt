@@ -1,3 +1,5 @@
 -- Laws of the shadow on four planes.
 pub mod Laying
 pub mod Cast
+pub mod Same
+pub mod Determined

@@ -109,8 +109,8 @@ fn apply_shadow_planes(
     requires { ⌜ ShadowReady size (now scratch) (now plane) (now weights) recipe ⌝ ∗ ⌜ length (now planes) ≡ fullBytes size ⌝ }
     ensures { λ _. ⌜ now (planes .exit) ≡ onPlanes (size .w) (size .h) (shadowed mode (now (weights .entry)) n recipe composite (size .w) (size .h)) (now (planes .entry)) ⌝ }
 {
-    let start = 3 * plane.len();
-    pixels::copy_bytes(plane, &planes[start..]);
+    let area = plane.len();
+    pixels::copy_bytes(plane, &planes[3 * area..4 * area]);
     drop_shadow::cast_plane(plane, size, scratch, weights, n, mode, recipe);
     let colour = drop_shadow::colour_of(recipe);
     write_plane_shadow(plane, planes, size, colour, composite);

@@ -1,29 +1,37 @@
--- `write_colored_shadow` meets its contract: the copy is coloured first, and each way writes what the definition says.
-use mathlib.Core.Path.{_∙_}
+-- The shadow's alphas are made first, and each way writes what the definition says of them.
+use mathlib.Core.Bool.{true, false}
 use borrow.Author.Needs.{needs}
-use Rattle.composite.specs.Shadow.{written}
+use Rattle.picture.specs.Planes.{chan, painted}
+use Rattle.picture.proofs.Planes.{painted-same}
+use Rattle.composite.proofs.Laid.{shadow-written}
 use Rattle.composite.proofs.write_colored_shadow.Statement.{statement}
 use Rattle.composite.proofs.write_colored_shadow.Tie as tie
 
 returns : tie.Need-returns
-unfolding written
 returns c =
     let call = c .before .before in
     let then = call .before .before .before in
-    let coloured = then .before .before .before in
-    rw (then .if1 .taken) (call .compose .ensures ∙ rw (coloured .colour-copy .ensures))
+    let made = then .before in
+    let alphas = made .before .before .before in
+    let s = alphas .before .before .before .before in
+    let a = s .args in
+    shadow-written (a .size .w) (a .size .h) (painted (a .size .w) (a .size .h)) (painted-same (a .size .w) (a .size .h)) (chan (a .picture .now) (a .size .w)) (a .colour) (a .plane .now) (s .pre .0) true (then .if1 .taken) (made .tint-of .ensures) (alphas .shadow-alphas .ensures) (call .lay-pixels .ensures)
 
 returns-2 : tie.Need-returns-2
-unfolding written
 returns-2 c =
     let call = c .before .before in
     let else = call .before .before .before in
-    rw (else .if1 .left) (call .copy-bytes .ensures ∙ else .before .before .before .colour-copy .ensures)
+    let made = else .before in
+    let alphas = made .before .before .before in
+    let s = alphas .before .before .before .before in
+    let a = s .args in
+    shadow-written (a .size .w) (a .size .h) (painted (a .size .w) (a .size .h)) (painted-same (a .size .w) (a .size .h)) (chan (a .picture .now) (a .size .w)) (a .colour) (a .plane .now) (s .pre .0) false (else .if1 .left) (made .tint-of .ensures) (alphas .shadow-alphas .ensures) (call .tint-pixels .ensures)
 
 pub write-colored-shadow-spec : {M : Type 1} → statement M
 write-colored-shadow-spec =
     tie.close
     (tie.spec
+    (λ c κs. search needs)
     (λ c κs. search needs)
     (λ c κs. search needs)
     (λ c κs. search needs)

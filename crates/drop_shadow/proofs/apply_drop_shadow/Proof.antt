@@ -8,8 +8,8 @@ use Rattle.drop_shadow.proofs.Cast.{cast-laid, shadowed-is}
 use Rattle.drop_shadow.proofs.apply_drop_shadow.Statement.{statement}
 use Rattle.drop_shadow.proofs.apply_drop_shadow.Tie as tie
 
-write-shadow-requires : tie.Need-write-shadow-requires
-write-shadow-requires c κs =
+write-colored-shadow-requires : tie.Need-write-colored-shadow-requires
+write-colored-shadow-requires c κs =
     let made = c .before .before in
     let cast = made .before .before .before .before .before in
     let taken = cast .before .before .before .before .before in
@@ -30,7 +30,7 @@ returns c =
     let h = a .size .h in
     let zw = s .pre .0 .sized .w-low in
     let zh = s .pre .0 .sized .h-low in
-    write .write-shadow .ensures
+    write .write-colored-shadow .ensures
     ∙ rw (made .colour-of .ensures, cast .cast-plane .ensures, taken .take-alphas .ensures)
     (painted-same w h _ _
     (λ c x y lc lx ly.
@@ -44,7 +44,7 @@ apply-drop-shadow-spec =
     (λ c κs. search needs)
     (λ c κs. search needs)
     (λ c κs. search needs)
-    write-shadow-requires
+    write-colored-shadow-requires
     (λ c. search needs)
     (λ c. search needs)
     (λ c. search needs)

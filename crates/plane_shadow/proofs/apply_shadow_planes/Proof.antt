@@ -8,6 +8,12 @@ use Rattle.plane_shadow.proofs.Cast.{planes-shadowed}
 use Rattle.plane_shadow.proofs.apply_shadow_planes.Statement.{statement}
 use Rattle.plane_shadow.proofs.apply_shadow_planes.Tie as tie
 
+cast-plane-requires : tie.Need-cast-plane-requires
+cast-plane-requires c κs =
+    let copied = c .before .before .before .before in
+    let r = copied .before .before .before .before .before .before .before .before .pre .0 in
+    record { sized = r .sized; plane-is = copied .copy-bytes .kept .0 ∙ r .plane-is; scratch-is = r .scratch-is; given = r .given }
+
 write-plane-shadow-requires : tie.Need-write-plane-shadow-requires
 write-plane-shadow-requires c κs =
     let made = c .before .before in
@@ -27,7 +33,7 @@ returns c =
     let a = s .args in
     write .write-plane-shadow .ensures
     ∙ rw (made .colour-of .ensures, cast .cast-plane .ensures, copied .copy-bytes .ensures)
-    (planes-shadowed (a .mode) (a .weights .now) (a .n) (a .recipe) (a .size .w) (a .size .h) (s .pre .0 .sized .w-low) (s .pre .0 .sized .h-low) (a .composite) (a .planes .now) (length (a .plane .now)) (length (a .planes .now) - 3 * length (a .plane .now)) (s .pre .0 .plane-is) (omega (arith, s .pre .0 .plane-is, s .pre .1)))
+    (planes-shadowed (a .mode) (a .weights .now) (a .n) (a .recipe) (a .size .w) (a .size .h) (s .pre .0 .sized .w-low) (s .pre .0 .sized .h-low) (a .composite) (a .planes .now) (length (a .plane .now)) (4 * length (a .plane .now) - 3 * length (a .plane .now)) (s .pre .0 .plane-is) (omega arith))
 
 pub apply-shadow-planes-spec : {M : Type 1} → statement M
 apply-shadow-planes-spec =
@@ -37,8 +43,9 @@ apply-shadow-planes-spec =
     (λ c. search needs)
     (λ c. search needs)
     (λ c. search needs)
+    (λ c. search needs)
     (λ c κs. search needs)
-    (λ c κs. search needs)
+    cast-plane-requires
     (λ c κs. search needs)
     write-plane-shadow-requires
     (λ c. search needs)

@@ -1,12 +1,8 @@
 -- The shadow's alphas are made first, and each way writes what the definition says of them.
-use mathlib.Core.Path.{_≡_, _∙_}
-use mathlib.Core.Bool.{Bool, true, false}
-use mathlib.Core.List.{List}
-use Prim.Native.Nat.{ℕ, _*_}
-use lib.ListN.{length}
+use mathlib.Core.Bool.{true, false}
 use borrow.Author.Needs.{needs}
-use Rattle.composite.proofs.Laid.{laid-shadow}
-use Rattle.planes.specs.Planar.{planeOf}
+use Rattle.planes.specs.Planar.{planeOf, paintedPlanes}
+use Rattle.composite.proofs.Laid.{shadow-written}
 use Rattle.plane_shadow.proofs.Cast.{planes-same}
 use Rattle.plane_shadow.proofs.write_plane_shadow.Statement.{statement}
 use Rattle.plane_shadow.proofs.write_plane_shadow.Tie as tie
@@ -19,10 +15,7 @@ returns c =
     let alphas = made .before .before .before in
     let s = alphas .before .before .before .before in
     let a = s .args in
-    rw (then .if1 .taken)
-    (call .lay-planes .ensures
-    ∙ rw (made .tint-of .ensures, alphas .shadow-alphas .ensures)
-    (planes-same _ _ _ _ (λ c x y lc lx ly. laid-shadow true (a .colour) (planeOf (a .planes .now) (a .size .w) (a .size .h)) (a .plane .now) (a .size .w) (a .size .h) (s .pre .0 .exact) c x y lx ly)))
+    shadow-written (a .size .w) (a .size .h) (paintedPlanes (a .size .w) (a .size .h)) (planes-same (a .size .w) (a .size .h)) (planeOf (a .planes .now) (a .size .w) (a .size .h)) (a .colour) (a .plane .now) (s .pre .0 .exact) true (then .if1 .taken) (made .tint-of .ensures) (alphas .shadow-alphas .ensures) (call .lay-planes .ensures)
 
 returns-2 : tie.Need-returns-2
 returns-2 c =
@@ -32,10 +25,7 @@ returns-2 c =
     let alphas = made .before .before .before in
     let s = alphas .before .before .before .before in
     let a = s .args in
-    rw (else .if1 .left)
-    (call .tint-planes .ensures
-    ∙ rw (made .tint-of .ensures, alphas .shadow-alphas .ensures)
-    (planes-same _ _ _ _ (λ c x y lc lx ly. laid-shadow false (a .colour) (planeOf (a .planes .now) (a .size .w) (a .size .h)) (a .plane .now) (a .size .w) (a .size .h) (s .pre .0 .exact) c x y lx ly)))
+    shadow-written (a .size .w) (a .size .h) (paintedPlanes (a .size .w) (a .size .h)) (planes-same (a .size .w) (a .size .h)) (planeOf (a .planes .now) (a .size .w) (a .size .h)) (a .colour) (a .plane .now) (s .pre .0 .exact) false (else .if1 .left) (made .tint-of .ensures) (alphas .shadow-alphas .ensures) (call .tint-planes .ensures)
 
 pub write-plane-shadow-spec : {M : Type 1} → statement M
 write-plane-shadow-spec =
