@@ -21,15 +21,15 @@ same-length c =
     let w2 = c .before .before in
     w2 .write-pixel2 .kept .0 ∙ w2 .before .before .before .before .before .write-pixel .kept .0
 
-returns : tie.Need-returns
-returns c =
+returns-2 : tie.Need-returns-2
+returns-2 c =
     let w2 = c .before .before in
     let m2 = w2 .before in
     let w1 = m2 .before .before .before .before in
     let m1 = w1 .before in
     let r2 = m1 .before .before in
     let r1 = r2 .before in
-    let st = r1 .before .before .before in
+    let st = r1 .before .before .before .before in
     let a = st .args in
     let x = a .x in
     let src = now (a .src) in
@@ -57,6 +57,10 @@ double-pixel-spec =
     tie.close
     (tie.spec
     (λ c. omega (arith, room-is))
+    (λ c. omega arith)
+    (λ c. omega arith)
+    (λ c. omega arith)
+    (λ c. absurd (omega arith))
     (λ c κs. omega arith)
     (λ c. omega arith)
     (λ c κs. omega arith)
@@ -67,4 +71,4 @@ double-pixel-spec =
     (λ c κs. tt)
     write-pixel-requires-2
     same-length
-    returns)
+    returns-2)
