@@ -15,7 +15,7 @@ use Rattle.passes.specs.Written.{lane}
 use Rattle.blend.specs.declared.Taps.{Taps}
 use Rattle.blend.specs.Blend.{mixAt}
 use Rattle.blend.specs.Tapped.{offsetOf, weightOf, tapsOf, tapped, LineRoom, Fit, Output, Blendable}
-use Rattle.blend.specs.Parts.{PassPart}
+use Rattle.blend.specs.Parts.{Room, PassPart}
 
 weight-most : (p : At) (w : ℕ) → weightOf p w ≤ w
 weight-most (Inside i) w = omega arith
@@ -58,6 +58,10 @@ module _ (a b c d : At) {t : Taps} (stride : ℕ) (e : t ≡ tapsOf a b c d stri
         tap-value c src start stride 3 k,
         tap-value d src start stride 1 k,
       ))
+
+-- each element of a line within src ends within it
+pub element-ends : {src dst : List ℕ} {start stride len o n : ℕ} → Room src dst start stride len o n → (i : ℕ) → i < len → start + i * stride + stride ≤ length src
+element-ends {start = start} {stride} {len} r i l = omega (arith, within start stride i len l, r .src-ends)
 
 -- taps of a line within src have room for a blend
 pub taps-room : {t : Taps} {len stride : ℕ} {src dst : List ℕ} {start p : ℕ} → Fit t len stride → start + len * stride ≤ length src → p + stride ≤ length dst → Blendable src dst t start stride p

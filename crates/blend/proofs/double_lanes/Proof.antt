@@ -1,6 +1,6 @@
 -- The two elements blended are doubling's samples.
 use mathlib.Core.Path.{_≡_, _∙_}
-use Prim.Native.Nat.{ℕ, _+_, _*_, _≤_, _<_}
+use Prim.Native.Nat.{ℕ, _+_, _*_, _≤_}
 use native.Mathlib.Nat.{add-mul, one-mul}
 use native.Mathlib.Omega.{arith}
 use denote.Ref.{now}
@@ -11,14 +11,10 @@ use Rattle.edges.specs.declared.At.the-variants.{Inside}
 use Rattle.passes.specs.Passes.{double}
 use Rattle.passes.specs.Written.{lane}
 use Rattle.passes.proofs.Written.{element-made}
-use Rattle.blend.proofs.Tapped.{taps-fit, taps-mix, taps-room}
+use Rattle.blend.proofs.Tapped.{element-ends, taps-fit, taps-mix, taps-room}
 use Rattle.blend.proofs.Outputs.{odd-inside, even-inside}
 use Rattle.blend.proofs.double_lanes.Statement.{statement}
 use Rattle.blend.proofs.double_lanes.Tie as tie
-
--- element i ends within the line
-ends : (st : tie.Start) (i : ℕ) → i < st .args .len → st .args .start + i * st .args .stride + st .args .stride ≤ length (now (st .args .src))
-ends st i l = omega (arith, within (st .args .start) (st .args .stride) i (st .args .len) l, st .pre .1 .src-ends)
 
 -- the second output follows the first
 next : (x stride : ℕ) → (2 * x + 1) * stride + stride ≡ (2 * x + 2) * stride
@@ -31,7 +27,7 @@ room st = let a = st .args in omega (arith, next (a .x) (a .stride), within (a .
 taps-of-requires : tie.Need-taps-of-requires
 taps-of-requires c κs =
     let st = c .before .before in
-    omega (arith, ends st (st .args .x) (omega arith), ends st (st .args .x + 1) (omega arith))
+    omega (arith, element-ends (st .pre .1) (st .args .x) (omega arith), element-ends (st .pre .1) (st .args .x + 1) (omega arith))
 
 blend-element-requires : tie.Need-blend-element-requires
 blend-element-requires c κs =
@@ -45,7 +41,7 @@ blend-element-requires c κs =
 taps-of-requires-2 : tie.Need-taps-of-requires-2
 taps-of-requires-2 c κs =
     let st = c .before .before .before .before .before .before .before in
-    omega (arith, ends st (st .args .x) (omega arith), ends st (st .args .x + 1) (omega arith))
+    omega (arith, element-ends (st .pre .1) (st .args .x) (omega arith), element-ends (st .pre .1) (st .args .x + 1) (omega arith))
 
 blend-element-requires-2 : tie.Need-blend-element-requires-2
 blend-element-requires-2 c κs =

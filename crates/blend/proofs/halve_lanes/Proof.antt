@@ -1,6 +1,6 @@
 -- The four elements blended are halving's samples.
 use mathlib.Core.Path.{_∙_}
-use Prim.Native.Nat.{ℕ, _+_, _-_, _*_, _≤_, _<_}
+use Prim.Native.Nat.{_+_, _-_, _*_, _≤_}
 use native.Mathlib.Omega.{arith}
 use denote.Ref.{now}
 use lib.ListN.{length}
@@ -9,14 +9,10 @@ use Rattle.edges.specs.declared.At.the-variants.{Inside}
 use Rattle.passes.specs.Passes.{halve}
 use Rattle.passes.specs.Written.{lane}
 use Rattle.passes.proofs.Written.{element-made}
-use Rattle.blend.proofs.Tapped.{taps-fit, taps-mix, taps-room}
+use Rattle.blend.proofs.Tapped.{element-ends, taps-fit, taps-mix, taps-room}
 use Rattle.blend.proofs.Outputs.{halved-inside}
 use Rattle.blend.proofs.halve_lanes.Statement.{statement}
 use Rattle.blend.proofs.halve_lanes.Tie as tie
-
--- element i ends within the line
-ends : (st : tie.Start) (i : ℕ) → i < st .args .len → st .args .start + i * st .args .stride + st .args .stride ≤ length (now (st .args .src))
-ends st i l = omega (arith, within (st .args .start) (st .args .stride) i (st .args .len) l, st .pre .2 .src-ends)
 
 -- the output lies within the buffer
 room : (st : tie.Start) → st .args .o + st .args .x * st .args .stride + st .args .stride ≤ length (now (st .args .dst))
@@ -26,7 +22,7 @@ taps-of-requires : tie.Need-taps-of-requires
 taps-of-requires c κs =
     let st = c .before .before in
     let at = 2 * st .args .x in
-    omega (arith, ends st (at - 1) (omega arith), ends st at (omega arith), ends st (at + 1) (omega arith), ends st (at + 2) (omega arith))
+    omega (arith, element-ends (st .pre .2) (at - 1) (omega arith), element-ends (st .pre .2) at (omega arith), element-ends (st .pre .2) (at + 1) (omega arith), element-ends (st .pre .2) (at + 2) (omega arith))
 
 blend-element-requires : tie.Need-blend-element-requires
 blend-element-requires c κs =
