@@ -1,12 +1,13 @@
 // The plate file for C.
 use plate::Labelling;
 use plate::Lookup;
+use plate_empty::Started;
 use plate_write::Added;
-use plate_write::Started;
 ghost use mathlib.Core.Path.{_≡_};
 ghost use Rattle.picture.specs.Answer.{answered, lent};
 ghost use Rattle.plate.specs.Lookup.{lookedUp, beside, labelledUp};
-ghost use Rattle.plate_write.specs.Outcome.{grown, startOutcome, addOutcome};
+ghost use Rattle.plate_empty.specs.Outcome.{grown, startOutcome};
+ghost use Rattle.plate_write.specs.Outcome.{addOutcome};
 ghost use Rattle.body_blur.specs.Blur.{plateBlur};
 ghost use Rattle.job.specs.Job.{jobOutcome};
 ghost use Rattle.face_files.specs.Words.{pictureIn};
@@ -76,7 +77,7 @@ pub extern "C" fn corbelrush_plate_start(buffer: &mut [u8], version: u32, used: 
     ensures { λ r. ⌜ answered r (grown (now (buffer .exit)) (now (used .exit))) ≡ startOutcome (now (buffer .entry)) version ⌝ }
 {
     *used = 0;
-    match plate_write::plate_start(buffer, version) {
+    match plate_empty::plate_start(buffer, version) {
         Started::NotStarted(r) => r.number(),
         Started::Empty(n) => {
             *used = n as u64;

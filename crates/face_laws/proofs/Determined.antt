@@ -8,7 +8,7 @@ use denote.Triple.Clauses.{AtExit}
 use denote.Ref.{now}
 use Rattle.picture.specs.Answer.{answered, lent, lentCopy}
 use Rattle.plate.specs.Lookup.{beside}
-use Rattle.plate_write.specs.Outcome.{grown}
+use Rattle.plate_empty.specs.Outcome.{grown}
 use Rattle.face_grades.specs.Words.{pointers}
 use Rattle.face_files.specs.Words.{pictureIn}
 use Rattle.face_filters.proofs.filters.corbelrush_blur.Reads as blur

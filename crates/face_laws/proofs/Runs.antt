@@ -18,7 +18,8 @@ use Rattle.grading.specs.Premultiplied.{checked}
 use Rattle.grading.specs.Sampling.{viewRefusal, sampled}
 use Rattle.spread.specs.Spread.{reported}
 use Rattle.plate.specs.Lookup.{Picture, lookedUp, Beside, beside, labelledUp}
-use Rattle.plate_write.specs.Outcome.{Grown, grown, startOutcome, addOutcome}
+use Rattle.plate_empty.specs.Outcome.{Grown, grown, startOutcome}
+use Rattle.plate_write.specs.Outcome.{addOutcome}
 use Rattle.body_blur.specs.Blur.{plateBlur}
 use Rattle.job.specs.Job as job
 use Rattle.face_filters.specs.Words.{recipe, flag}

@@ -9,15 +9,16 @@ use denote.Triple.Clauses.{AtExit}
 use denote.Ref.{now}
 use lib.Dec.{eqb}
 use Rattle.picture.specs.Answer.{Answer}
-use Rattle.plate_write.specs.Outcome.{Grown, starts, adds}
-use Rattle.plate_write.specs.declared.StartRefusal.the-variants.{UnknownVersion, NoHeaderRoom}
-use Rattle.plate_write.specs.declared.Started.{Started}
-use Rattle.plate_write.specs.declared.Started.the-variants.{NotStarted, Empty}
+use Rattle.plate_empty.specs.Outcome.{Grown, starts}
+use Rattle.plate_write.specs.Outcome.{adds}
+use Rattle.plate_empty.specs.declared.StartRefusal.the-variants.{UnknownVersion, NoHeaderRoom}
+use Rattle.plate_empty.specs.declared.Started.{Started}
+use Rattle.plate_empty.specs.declared.Started.the-variants.{NotStarted, Empty}
 use Rattle.plate_write.specs.declared.AddRefusal.the-variants.{BrokenPlate, WrongSides, WrongLength, NoRoom}
 use Rattle.plate_write.specs.declared.Added.{Added}
 use Rattle.plate_write.specs.declared.Added.the-variants.{Refused, InUse}
-use Rattle.plate_write.proofs.plate_start.Reads as start
-use Rattle.plate_write.proofs.plate_start.Kinds as start-kinds
+use Rattle.plate_empty.proofs.plate_start.Reads as start
+use Rattle.plate_empty.proofs.plate_start.Kinds as start-kinds
 use Rattle.plate_write.proofs.plate_add.Reads as add
 use Rattle.plate_write.proofs.plate_add.Kinds as add-kinds
 

@@ -9,7 +9,7 @@ use Rattle.plate_numbers.specs.Numbers.{u16At, version, count, known, largestWh
 use Rattle.plate_format.specs.Format.{maxCount, bodyOffset, allBelow, filled, isPlateTo, isPlate}
 use Rattle.plate_written.specs.Written.{bytes16, headerBytes}
 use Rattle.plate_numbers.proofs.Versions.{whole-small}
-use Rattle.plate_write.specs.Added.{emptyPlate}
+use Rattle.plate_empty.specs.Outcome.{emptyPlate}
 
 pub empty-version : (v : ℕ) → version (emptyPlate v) ≡ v
 unfolding headerBytes bytes16 u16At

@@ -20,19 +20,21 @@ use Rattle.plate.specs.declared.Lookup.{Lookup}
 use Rattle.plate.proofs.Settle.{listed, there}
 use Rattle.plate_room.specs.Room.{inUse}
 use Rattle.plate_room.proofs.Room.{roomy}
-use Rattle.plate_write.specs.Added.{emptyPlate, added}
-use Rattle.plate_write.specs.Outcome.{Grown, grown}
+use Rattle.plate_empty.specs.Outcome.{emptyPlate}
+use Rattle.plate_write.specs.Added.{added}
+use Rattle.plate_empty.specs.Outcome.{Grown, grown}
 use Rattle.plate_write.specs.Steps.{Adding}
 use Rattle.plate_back.specs.ReadsBack.{movedOn, lastAdded, ReadsBack}
 use Rattle.plate_write.specs.declared.Added.the-variants.{InUse}
-use Rattle.plate_write.specs.declared.Started.the-variants.{Empty}
+use Rattle.plate_empty.specs.declared.Started.the-variants.{Empty}
 use Rattle.plate_back.proofs.Back.{Addable, version-kept, count-more, old-entry-is, new-entry-is, offset-is, last, length-added, old-body, new-body, still}
 use Rattle.plate_back.proofs.Empty.{empty-version, empty-count, empty-plate}
-use Rattle.plate_write.proofs.Settle.{start-accepted, add-accepted}
+use Rattle.plate_empty.proofs.Settle.{start-accepted}
+use Rattle.plate_write.proofs.Settle.{add-accepted}
 use Rattle.plate.proofs.find_picture.Reads as find
 use Rattle.plate.proofs.find_picture.Kinds as find-kinds
-use Rattle.plate_write.proofs.plate_start.Reads as start
-use Rattle.plate_write.proofs.plate_start.Kinds as start-kinds
+use Rattle.plate_empty.proofs.plate_start.Reads as start
+use Rattle.plate_empty.proofs.plate_start.Kinds as start-kinds
 use Rattle.plate_write.proofs.plate_add.Reads as add
 use Rattle.plate_write.proofs.plate_add.Kinds as add-kinds
 

@@ -1,17 +1,13 @@
--- Writing plates: a plate of no pictures, and a plate with one picture more, as lists of bytes.
+-- A plate with one picture more, as a list of bytes.
 use mathlib.Core.List.{List, _++_}
 use Prim.Native.Nat.{ℕ, _+_}
 use lib.ListN.{drop}
 use Rattle.plate_numbers.specs.Numbers.{version, count}
 use Rattle.plate_format.specs.Format.{bodyOffset}
-use Rattle.plate_written.specs.Written.{headerBytes, plateOf}
+use Rattle.plate_written.specs.Written.{plateOf}
 use Rattle.plate.specs.Lookup.{Beside}
 use Rattle.plate_table.specs.Table.{entryAfter}
 use Rattle.plate_room.specs.Room.{newEntry}
-
--- a plate of no pictures: its version, and a count of 0
-abbrev pub emptyPlate : ℕ → List ℕ
-emptyPlate v = headerBytes v 0
 
 -- the plate with one picture more: a table one entry longer, the bodies, and then the picture
 unfoldable pub added : List ℕ → ℕ → ℕ → Beside → List ℕ → List ℕ

@@ -1,4 +1,4 @@
-// Writing plates in a lent buffer: an empty one, and one picture more at a time.
+// Writing plates in a lent buffer: one picture more at a time.
 use picture::BROKEN_PLATE;
 use picture::NO_ROOM;
 use picture::WRONG_LENGTH;
@@ -7,33 +7,10 @@ ghost use mathlib.Core.Path.{_≡_};
 ghost use Rattle.picture.specs.Planes.{laid};
 ghost use Rattle.plate.specs.Lookup.{beside};
 ghost use Rattle.plate_room.specs.Room.{inUse, lengthAfter};
+ghost use Rattle.plate_empty.specs.Outcome.{grown};
 ghost use Rattle.plate_write.specs.Added.{added};
-ghost use Rattle.plate_write.specs.Outcome.{grown, startNumber, starts, startOutcome, addNumber, adds, addOutcome};
+ghost use Rattle.plate_write.specs.Outcome.{addNumber, adds, addOutcome};
 ghost use Rattle.plate_write.specs.Steps.{Adding};
-
-// Why a plate is not started.
-pub enum StartRefusal {
-    UnknownVersion,
-    NoHeaderRoom,
-}
-
-impl StartRefusal {
-    // The number of a refusal.
-    pub fn number(self) -> u32
-        ensures { λ r. ⌜ r ≡ startNumber self ⌝ }
-    {
-        match self {
-            StartRefusal::UnknownVersion => BROKEN_PLATE,
-            StartRefusal::NoHeaderRoom => NO_ROOM,
-        }
-    }
-}
-
-// What starting a plate comes to: its length in use.
-pub enum Started {
-    NotStarted(StartRefusal),
-    Empty(usize),
-}
 
 // Why a picture is not added.
 pub enum AddRefusal {
@@ -61,20 +38,6 @@ impl AddRefusal {
 pub enum Added {
     Refused(AddRefusal),
     InUse(usize),
-}
-
-// Starts a plate of no pictures, of that version, at the buffer's start.
-pub fn plate_start(buffer: &mut [u8], version: u32) -> Started
-    ensures { λ r. ⌜ starts r (now (buffer .exit)) ≡ startOutcome (now (buffer .entry)) version ⌝ }
-{
-    if !plate_numbers::known(version) {
-        return Started::NotStarted(StartRefusal::UnknownVersion);
-    }
-    if buffer.len() < plate_format::HEADER {
-        return Started::NotStarted(StartRefusal::NoHeaderRoom);
-    }
-    plate_table::fields::put_header(buffer, version as u16, 0);
-    Started::Empty(plate_format::HEADER)
 }
 
 // Adds the picture: the bodies move one table entry further, the table is written anew, and the picture comes last.

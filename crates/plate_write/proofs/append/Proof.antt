@@ -11,7 +11,7 @@ use Rattle.plate_format.specs.declared.Entry.{Entry}
 use Rattle.plate.specs.Lookup.{beside}
 use Rattle.plate_table.specs.Steps.{laidAt}
 use Rattle.plate_room.specs.Room.{newEntry, inUse}
-use Rattle.plate_write.specs.Outcome.{grown}
+use Rattle.plate_empty.specs.Outcome.{grown}
 use Rattle.plate_write.proofs.Appended.{file-long, tabled, first-low, fits, new-fits, opened, opened-ready, appended, length-is}
 use Rattle.plate_write.proofs.append.Statement.{statement}
 use Rattle.plate_write.proofs.append.Tie as tie

@@ -9,7 +9,7 @@ use Rattle.picture.specs.Refusal.{wrongSides, wrongLength}
 use Rattle.picture.proofs.Conditions.{right-length}
 use Rattle.plate_room.specs.Room.{noRoom, inUse, noPlate}
 use Rattle.plate_room.proofs.Room.{InPlate, in-plate}
-use Rattle.plate_write.specs.Outcome.{Grown}
+use Rattle.plate_empty.specs.Outcome.{Grown}
 use Rattle.plate_write.proofs.Settle.{no-plate, wrong-sides, wrong-length, no-room, add-done}
 use Rattle.plate_write.proofs.plate_add.Statement.{statement}
 use Rattle.plate_write.proofs.plate_add.Tie as tie

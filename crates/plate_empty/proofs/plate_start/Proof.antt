@@ -9,10 +9,10 @@ use lib.ListN.{length}
 use Rattle.picture.specs.Answer.{answered}
 use Rattle.plate_numbers.specs.Numbers.{known}
 use Rattle.plate_numbers.proofs.Versions.{known-small}
-use Rattle.plate_write.specs.Outcome.{grown}
-use Rattle.plate_write.proofs.Settle.{unknown, too-small, started}
-use Rattle.plate_write.proofs.plate_start.Statement.{statement}
-use Rattle.plate_write.proofs.plate_start.Tie as tie
+use Rattle.plate_empty.specs.Outcome.{grown}
+use Rattle.plate_empty.proofs.Settle.{unknown, too-small, started}
+use Rattle.plate_empty.proofs.plate_start.Statement.{statement}
+use Rattle.plate_empty.proofs.plate_start.Tie as tie
 
 returns : tie.Need-returns
 returns c = unknown _ _ (sym (c .before .known .ensures) ∙ not-true _ (c .if1 .taken))

@@ -1,0 +1,2 @@
+-- Laws of starting a plate.
+pub mod Settle

@@ -1,0 +1,2 @@
+-- The definitions that contracts cite of starting a plate.
+pub mod Outcome
