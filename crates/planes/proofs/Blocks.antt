@@ -1,4 +1,4 @@
--- Laws of a picture that is taken apart by blocks: what two partings make of 80 pixels, and one plane more.
+-- Laws of a picture that is taken apart by blocks: a block in one plane more, and in all four.
 use mathlib.Core.Path.{_≡_, _∙_, refl, sym}
 use mathlib.Core.Bool.{Bool, true, false, cond}
 use mathlib.Core.List.{List}
@@ -10,22 +10,12 @@ use lib.ListN.{length, getD}
 use borrow.Author.Tests.{lt-ltb, le-ltb}
 use Rattle.picture.specs.Spans.{Run}
 use Rattle.picture.proofs.Spans.{le-or-lt, within, span-at}
-use Rattle.planes.specs.Places.{Carried, pixelwise, onward, byTurns, lead, reach, InPlanes}
-use Rattle.planes.proofs.Carried.{read, channel-at}
+use Rattle.planes.specs.Places.{Carried, pixelwise, onward, lead, reach, InPlanes}
+use Rattle.planes.proofs.Carried.{read, pixel-at, channel-at}
 
 small : (b : Bool) (x : ℕ) → cond b x 0 ≤ x
 small true x = omega arith
 small false x = omega arith
-
--- parted twice, 320 bytes are four runs of 80, one for each channel
-pub twice-parted : (src turns parts : List ℕ) (from : ℕ) → Carried (onward from) byTurns src turns 320 → Carried (onward 0) byTurns turns parts 320 →
-    (c k : ℕ) → c < 4 → k < 80 → getD parts (80 * c + k) 0 ≡ getD src (from + (4 * k + c)) 0
-twice-parted src turns parts from one two c k lc lk =
-    let j = c % 2 * 160 + (2 * k + c / 2) in
-    read parts {j = 80 * c + k} {k = byTurns j} (omega arith)
-    ∙ two j (omega arith)
-    ∙ read turns {j = onward 0 j} {k = byTurns (4 * k + c)} (omega arith)
-    ∙ one (4 * k + c) (omega arith)
 
 module _ (n m : ℕ) (src : List ℕ) (room : m + 80 ≤ n) where
   -- 64 bytes are laid in plane t
@@ -64,15 +54,14 @@ module _ (n m : ℕ) (src : List ℕ) (room : m + 80 ≤ n) where
 none : (c : ℕ) → cond {A = ℕ} (ltb c 0) 64 0 ≡ 0
 none c = rw (le-ltb c 0 (omega arith))
 
--- 80 pixels parted twice, and 64 bytes of each channel laid in its plane
-module _ (n m : ℕ) (src : List ℕ) (room : m + 80 ≤ n) (turns parts : List ℕ) (one : Carried (onward (4 * m)) byTurns src turns 320) (two : Carried (onward 0) byTurns turns parts 320) where
+-- 80 pixels taken apart, and 64 bytes of each channel laid in its plane
+module _ (n m : ℕ) (src : List ℕ) (room : m + 80 ≤ n) (parts : List ℕ) (apart : Carried (onward (4 * m)) (pixelwise 80 1) src parts 320) where
   laid-more : (t o p : ℕ) (d e : List ℕ) → t < 4 → o ≡ 80 * t + lead t → p ≡ t * n + (m + lead t) → Run 0 d e p 64 (λ k. getD parts (o + k) 0) → InPlanes n m t src d → InPlanes n m (t + 1) src e
   laid-more t o p d e lt eo ep laid old =
       plane-more n m src room t d e p (λ k. getD parts (o + k) 0) laid ep
       (λ k lk.
-      read parts {j = o + k} {k = 80 * t + (lead t + k)} (omega arith)
-      ∙ twice-parted src turns parts (4 * m) one two t (lead t + k) lt (omega (arith, small (ltb t 2) 16))
-      ∙ read src (omega arith))
+      let j = 4 * (lead t + k) + t in
+      read parts (omega (arith, pixel-at 80 1 j (lead t + k) t lt refl)) ∙ apart j (omega (arith, small (ltb t 2) 16)) ∙ read src (omega arith))
       old
 
   pub block-split : (d₀ d₁ d₂ d₃ d₄ : List ℕ) → InPlanes n m 0 src d₀ →

@@ -48,25 +48,24 @@ channel-at s a d b src dst m f c k lc lk =
 pub pixel-inside : (channel pixel most to k : ℕ) → ((j : ℕ) → j < 4 * to → pixelwise channel pixel j < most) → k < to → k * pixel + 3 * channel < most
 pixel-inside channel pixel most to k f l = omega (arith, f (4 * k + 3) (omega arith), pixel-at channel pixel (4 * k + 3) k 3 (omega arith) (omega arith))
 
--- one pixel more
-module _ (s a d b : ℕ) (src : List ℕ) (n : ℕ) (own : Own (pixelwise d b) n) where
-  pub pixel-more : (dst : List ℕ) (k : ℕ) → 4 * k + 3 < n → k * b + 3 * d < length dst → Carried (pixelwise s a) (pixelwise d b) src dst (4 * k) →
-      Carried (pixelwise s a) (pixelwise d b) src (withPixel src (k * a) s dst (k * b) d) (4 * (k + 1))
-  pixel-more dst k lk room f =
-      let d₁ = set dst (k * b) (getD src (k * a) 0) in
-      let d₂ = set d₁ (k * b + d) (getD src (k * a + s) 0) in
-      let d₃ = set d₂ (k * b + 2 * d) (getD src (k * a + 2 * s) 0) in
-      let more = one-more (pixelwise s a) (pixelwise d b) src n own in
-      let at₀ = pixel-at d b (4 * k) k 0 (omega arith) (omega arith) in
-      let at₁ = pixel-at d b (4 * k + 1) k 1 (omega arith) (omega arith) in
-      let at₂ = pixel-at d b (4 * k + 2) k 2 (omega arith) (omega arith) in
-      let at₃ = pixel-at d b (4 * k + 3) k 3 (omega arith) (omega arith) in
-      let of₀ = pixel-at s a (4 * k) k 0 (omega arith) (omega arith) in
-      let of₁ = pixel-at s a (4 * k + 1) k 1 (omega arith) (omega arith) in
-      let of₂ = pixel-at s a (4 * k + 2) k 2 (omega arith) (omega arith) in
-      let of₃ = pixel-at s a (4 * k + 3) k 3 (omega arith) (omega arith) in
-      let f₁ = more dst (4 * k) (k * b) (getD src (k * a) 0) (omega arith) (omega arith) (omega (arith, at₀)) (read src (omega (arith, of₀))) f in
-      let f₂ = more d₁ (4 * k + 1) (k * b + d) (getD src (k * a + s) 0) (omega arith) (simp length-set (omega arith)) (omega (arith, at₁)) (read src (omega (arith, of₁))) f₁ in
-      let f₃ = more d₂ (4 * k + 2) (k * b + 2 * d) (getD src (k * a + 2 * s) 0) (omega arith) (simp length-set (omega arith)) (omega (arith, at₂)) (read src (omega (arith, of₂))) (λ j l. f₂ j (omega arith)) in
-      let f₄ = more d₃ (4 * k + 3) (k * b + 3 * d) (getD src (k * a + 3 * s) 0) (omega arith) (simp length-set (omega arith)) (omega (arith, at₃)) (read src (omega (arith, of₃))) (λ j l. f₃ j (omega arith)) in
+-- one pixel more, whose channels are read s apart from p on and written d apart from q on
+module _ (from to : Places) (src : List ℕ) (n : ℕ) (own : Own to n) (k p s q d : ℕ) (of : (c j : ℕ) → c < 4 → j ≡ 4 * k + c → from j ≡ p + c * s) (at : (c j : ℕ) → c < 4 → j ≡ 4 * k + c → to j ≡ q + c * d) where
+  pub pixel-more : (dst : List ℕ) → 4 * k + 3 < n → q + 3 * d < length dst → Carried from to src dst (4 * k) → Carried from to src (withPixel src p s dst q d) (4 * (k + 1))
+  pixel-more dst lk room f =
+      let d₁ = set dst q (getD src p 0) in
+      let d₂ = set d₁ (q + d) (getD src (p + s) 0) in
+      let d₃ = set d₂ (q + 2 * d) (getD src (p + 2 * s) 0) in
+      let more = one-more from to src n own in
+      let at₀ = at 0 (4 * k) (omega arith) (omega arith) in
+      let at₁ = at 1 (4 * k + 1) (omega arith) refl in
+      let at₂ = at 2 (4 * k + 2) (omega arith) refl in
+      let at₃ = at 3 (4 * k + 3) (omega arith) refl in
+      let of₀ = of 0 (4 * k) (omega arith) (omega arith) in
+      let of₁ = of 1 (4 * k + 1) (omega arith) refl in
+      let of₂ = of 2 (4 * k + 2) (omega arith) refl in
+      let of₃ = of 3 (4 * k + 3) (omega arith) refl in
+      let f₁ = more dst (4 * k) q (getD src p 0) (omega arith) (omega arith) (omega (arith, at₀)) (read src (omega (arith, of₀))) f in
+      let f₂ = more d₁ (4 * k + 1) (q + d) (getD src (p + s) 0) (omega arith) (simp length-set (omega arith)) (omega (arith, at₁)) (read src (omega (arith, of₁))) f₁ in
+      let f₃ = more d₂ (4 * k + 2) (q + 2 * d) (getD src (p + 2 * s) 0) (omega arith) (simp length-set (omega arith)) (omega (arith, at₂)) (read src (omega (arith, of₂))) (λ j l. f₂ j (omega arith)) in
+      let f₄ = more d₃ (4 * k + 3) (q + 3 * d) (getD src (p + 3 * s) 0) (omega arith) (simp length-set (omega arith)) (omega (arith, at₃)) (read src (omega (arith, of₃))) (λ j l. f₃ j (omega arith)) in
       λ j l. f₄ j (omega arith)

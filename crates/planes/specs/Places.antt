@@ -26,10 +26,6 @@ withPixel src p s dst q d = set (set (set (set dst q (getD src p 0)) (q + d) (ge
 abbrev pub onward : ℕ → Places
 onward from j = from + j
 
--- one to the first half of 320 bytes, and one to the second
-abbrev pub byTurns : Places
-byTurns j = j % 2 * 160 + j / 2
-
 -- what carrying the pixels from `from` up to `to` needs: those before are there, and each byte has a place of its own
 pub record Carries (read write : Places) (from to : ℕ) (src dst : List ℕ) : Type 0 where
   pub order : from ≤ to

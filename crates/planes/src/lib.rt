@@ -7,7 +7,7 @@ ghost use Prim.Native.Nat.{_+_, _-_, _*_, _≤_, _<_};
 ghost use lib.ListN.{length, getD};
 ghost use Rattle.picture.specs.Spans.{Run};
 ghost use Rattle.planes.specs.Planar.{planar, interleaved, Converts};
-ghost use Rattle.planes.specs.Places.{Carried, Carries, withPixel, pixelwise, onward, byTurns, Counted, InPlanes};
+ghost use Rattle.planes.specs.Places.{Carried, Carries, withPixel, pixelwise, onward, Counted, InPlanes};
 ghost use Rattle.planes.specs.Outcome.{convertChecks, toPlanesOutcome, fromPlanesOutcome};
 
 // How far apart two channels of a pixel stand, and one channel of two pixels.
@@ -39,15 +39,14 @@ fn carry(src: &[u8], s: Steps, dst: &mut [u8], d: Steps, from: usize, to: usize)
     }
 }
 
-// Parts 320 bytes by turns, one to the first half and one to the second.
+// Takes 80 pixels apart, those that are read from `from` on, into four planes of 80 bytes.
 fn part(src: &[u8], from: usize, dst: &mut [u8])
     requires { ⌜ from + 320 ≤ length (now src) ⌝ ∗ ⌜ length (now src) ≤ 17179869184 ⌝ ∗ ⌜ length (now dst) ≡ 320 ⌝ }
-    ensures { λ _. ⌜ Carried (onward from) byTurns (now (src .entry)) (now (dst .exit)) 320 ⌝ }
+    ensures { λ _. ⌜ Carried (onward from) (pixelwise 80 1) (now (src .entry)) (now (dst .exit)) 320 ⌝ }
 {
     let mut k = 0;
-    while k < 160 {
-        dst[k] = src[from + 2 * k];
-        dst[160 + k] = src[from + 2 * k + 1];
+    while k < 80 {
+        carry_pixel(src, from + 4 * k, 1, dst, k, 80);
         k += 1;
     }
 }
@@ -64,27 +63,25 @@ fn lay(src: &[u8], from: usize, end: usize, dst: &mut [u8], to: usize)
     }
 }
 
-// Takes 80 pixels apart, those from m on, and lays 64 bytes in each plane; the first two planes are 16 bytes ahead of the others.
+// Takes 80 pixels apart, those from m on, and lays 64 bytes in each plane, plane after plane; the first two planes are 16 bytes ahead of the others.
 fn split_block(src: &[u8], dst: &mut [u8], n: usize, m: usize)
     requires { ⌜ Counted n (now src) (now dst) ⌝ ∗ ⌜ m + 80 ≤ n ⌝ ∗ ⌜ InPlanes n m 0 (now src) (now dst) ⌝ }
     ensures { λ _. ⌜ InPlanes n (m + 64) 0 (now (src .entry)) (now (dst .exit)) ⌝ }
 {
-    let mut turns = [0u8; 320];
     let mut parts = [0u8; 320];
-    part(src, 4 * m, &mut turns);
-    part(&turns, 0, &mut parts);
+    part(src, 4 * m, &mut parts);
     lay(&parts, 16, 80, dst, m + 16);
     lay(&parts, 96, 160, dst, n + m + 16);
     lay(&parts, 160, 224, dst, 2 * n + m);
     lay(&parts, 240, 304, dst, 3 * n + m);
 }
 
-// Takes a picture of 1024 pixels or more apart by blocks, from pixel 48 on; answers up to where all pixels are in the planes.
+// Takes a picture that no cache holds apart by blocks, from pixel 48 on; answers up to where all pixels are in the planes.
 fn split_blocks(src: &[u8], dst: &mut [u8], n: usize) -> usize
     requires { ⌜ Counted n (now src) (now dst) ⌝ }
     ensures { λ r. ⌜ (r ≤ n) × Carried (pixelwise 1 4) (pixelwise n 1) (now (src .entry)) (now (dst .exit)) (4 * r) ⌝ }
 {
-    if n < 1024 {
+    if n < 2097152 {
         return 0;
     }
     carry(

@@ -5,7 +5,7 @@ use Prim.Native.Nat.{ℕ, _+_, _*_, _-_, _≤_, _<_}
 use native.Mathlib.Omega.{arith}
 use lib.ListN.{length, getD}
 use Rattle.planes.specs.Places.{Carried, pixelwise}
-use Rattle.planes.proofs.Carried.{pixel-inside, pixel-more}
+use Rattle.planes.proofs.Carried.{pixel-at, pixel-inside, pixel-more}
 use Rattle.planes.proofs.carry.Statement.{statement}
 use Rattle.planes.proofs.carry.Tie as tie
 
@@ -49,7 +49,8 @@ loop-again c =
     let i = l .loop .i in
     let made = c .before .before .carry-pixel in
     let more =
-    pixel-more (s .channel) (s .pixel) (d .channel) (d .pixel) (st .args .src .now) _ (st .pre .own) (l .loop .dst) i (omega arith)
+    pixel-more (pixelwise (s .channel) (s .pixel)) (pixelwise (d .channel) (d .pixel)) (st .args .src .now) _ (st .pre .own) i (i * s .pixel) (s .channel) (i * d .pixel) (d .channel)
+    (λ c j lc e. omega (arith, pixel-at (s .channel) (s .pixel) j i c lc e)) (λ c j lc e. omega (arith, pixel-at (d .channel) (d .pixel) j i c lc e)) (l .loop .dst) (omega arith)
     (omega (arith, pixel-inside _ _ _ _ i (st .pre .writes) (omega arith), l .loop .inv .1)) (l .loop .inv .2) in
     (omega arith, made .kept .1 .1 .1 .0 ∙ l .loop .inv .1, λ j lj. ap (λ (b : List ℕ). getD b (pixelwise (d .channel) (d .pixel) j) 0) (made .ensures) ∙ more j lj)
 

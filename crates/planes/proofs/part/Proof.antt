@@ -1,30 +1,32 @@
--- The first 2k bytes are parted.
-use mathlib.Core.Path.{_≡_, refl}
-use Prim.Native.Nat.{_+_, _*_, _-_, _≤_}
+-- The first k pixels are taken apart.
+use mathlib.Core.Path.{_≡_, _∙_, ap}
+use mathlib.Core.List.{List}
+use Prim.Native.Nat.{ℕ, _+_, _*_, _-_, _≤_}
 use native.Mathlib.Omega.{arith}
-use lib.ListN.{length, getD, set, length-set}
-use Rattle.planes.specs.Places.{Carried, onward, byTurns}
-use Rattle.planes.proofs.Carried.{one-more, read}
+use borrow.Author.Needs.{needs}
+use lib.ListN.{length, getD}
+use Rattle.planes.specs.Places.{Carried, onward, pixelwise}
+use Rattle.planes.proofs.Carried.{pixel-at, pixel-more}
+use Rattle.planes.proofs.Forms.{in-planes}
 use Rattle.planes.proofs.part.Statement.{statement}
 use Rattle.planes.proofs.part.Tie as tie
 
 abbrev Inv-loop : tie.InvT-loop
-Inv-loop src from dst₀ k₀ dst k = (k ≤ 160) × (length dst ≡ 320) × Carried (onward from) byTurns src dst (2 * k)
+Inv-loop src from dst₀ k₀ dst k = (k ≤ 80) × (length dst ≡ 320) × Carried (onward from) (pixelwise 80 1) src dst (4 * k)
 
 abbrev μ-loop : tie.MeasureT-loop
-μ-loop src from dst₀ k₀ dst k = 160 - k
+μ-loop src from dst₀ k₀ dst k = 80 - k
 
 loop-again : tie.Need-loop-again Inv-loop μ-loop
 loop-again c =
-    let l = c .before .before .before in
-    let src = l .before .args .src .now in
-    let from = l .before .args .from in
+    let l = c .before .before .before .before .before in
+    let st = l .before .before .before in
     let k = l .loop .k in
-    let dst = l .loop .dst in
-    let more = one-more (onward from) byTurns src 320 (λ i j li lj e. omega arith) in
-    let one = more dst (2 * k) k (getD src (from + 2 * k) 0) (omega arith) (omega arith) (omega arith) refl (l .loop .inv .2) in
-    let two = more (set dst k (getD src (from + 2 * k) 0)) (2 * k + 1) (160 + k) (getD src (from + 2 * k + 1) 0) (omega arith) (simp length-set (omega arith)) (omega arith) (read src (omega arith)) one in
-    (omega arith, simp length-set (l .loop .inv .1), λ j lj. two j (omega arith))
+    let made = c .before .before .carry-pixel in
+    let more =
+    pixel-more (onward (st .args .from)) (pixelwise 80 1) (st .args .src .now) 320 (in-planes 80 .own) k (st .args .from + 4 * k) 1 k 80
+    (λ c j lc e. omega arith) (λ c j lc e. omega (arith, pixel-at 80 1 j k c lc e)) (l .loop .dst) (omega arith) (omega arith) (l .loop .inv .2) in
+    (omega arith, made .kept .1 .1 .1 .0 ∙ l .loop .inv .1, λ j lj. ap (λ (b : List ℕ). getD b (pixelwise 80 1 j) 0) (made .ensures) ∙ more j lj)
 
 returns : tie.Need-returns Inv-loop μ-loop
 returns c j lj = c .before .loop .inv .2 j (omega arith)
@@ -38,14 +40,7 @@ part-spec =
     (λ c. (omega arith, omega arith, λ j l. absurd (omega arith)))
     (λ c. omega arith)
     (λ c. omega arith)
-    (λ c. omega arith)
-    (λ c. omega arith)
-    (λ c. omega arith)
-    (λ c. omega arith)
-    (λ c. omega arith)
-    (λ c. omega arith)
-    (λ c. omega arith)
-    (λ c. simp length-set (omega arith))
+    (λ c κs. search needs)
     (λ c. omega arith)
     (λ c. omega arith)
     loop-again

@@ -1,4 +1,4 @@
--- Each plane has 64 bytes more, of the pixels that were parted.
+-- Each plane has 64 bytes more, of the pixels that were taken apart.
 use borrow.Author.Needs.{needs}
 use Rattle.planes.proofs.Blocks.{block-split}
 use Rattle.planes.proofs.split_block.Statement.{statement}
@@ -11,10 +11,8 @@ returns c =
     let two = three .before .before .before .before .before in
     let one = two .before .before .before .before .before in
     let parted = one .before .before .before .before in
-    let turned = parted .before .before .before .before in
-    let st = turned .before .before .before .before in
-    block-split (st .args .n) (st .args .m) (st .args .src .now) (st .pre .1 .0) (turned .part .last .1 .1 .0) (parted .part2 .last .1 .1 .0) (turned .part .ensures) (parted .part2 .ensures) _ _ _ _ _ (st .pre .1 .1)
-    (one .lay .ensures) (two .lay2 .ensures) (three .lay3 .ensures) (four .lay4 .ensures)
+    let st = parted .before .before .before .before in
+    block-split (st .args .n) (st .args .m) (st .args .src .now) (st .pre .1 .0) (parted .part .last .1 .1 .0) (parted .part .ensures) _ _ _ _ _ (st .pre .1 .1) (one .lay .ensures) (two .lay2 .ensures) (three .lay3 .ensures) (four .lay4 .ensures)
 
 pub split-block-spec : {M : Type 1} → statement M
 split-block-spec =
@@ -28,9 +26,6 @@ split-block-spec =
     (λ c κs. search needs)
     (λ c. search needs)
     (λ c. search needs)
-    (λ c κs. search needs)
-    (λ c. search needs)
-    (λ c. search needs)
     (λ c. search needs)
     (λ c κs. search needs)
     (λ c. search needs)
@@ -40,6 +35,6 @@ split-block-spec =
     (λ c. search needs)
     (λ c. search needs)
     (λ c. search needs)
-    (λ c κs. search (needs, c .before .before .before .before .before .before .before .before .before .before .before .before .before .before .before .before .before .before .before .before .before .before .before .before .before .before .pre .1 .0))
+    (λ c κs. search needs)
     (λ c. search needs)
     returns)
