@@ -16,10 +16,6 @@ use Rattle.picture.proofs.Spans.{within}
 use Rattle.binary32.specs.declared.Offset.{Offset}
 use Rattle.planes.specs.Planar.{planeOf, onPlanes}
 use Rattle.planes.proofs.Planar.{planes-ext}
-<<<<<<< ours
-=======
-use Rattle.planes.proofs.Carried.{read}
->>>>>>> theirs
 use Rattle.planes.proofs.Once.{on-planes}
 use Rattle.shift.specs.Shift.{shifted, shiftedPicture}
 use Rattle.shift.specs.Bytes.{planeShifted}
