@@ -10,7 +10,7 @@ use Rattle.picture.specs.Answer.{Answer, answered, Lent, lent, LentCopy, lentCo
 use Rattle.planes.specs.Planar.{planar, interleaved}
 use Rattle.planes.specs.Outcome.{convertedOutcome}
 use Rattle.plane_shift.specs.Shifted.{shiftPlanesOutcome}
-use Rattle.plane_filters.specs.Outcome.{blurPlanesOutcome}
+use Rattle.plane_blur.specs.Outcome.{blurPlanesOutcome}
 use Rattle.plane_shadow.specs.Outcome.{shadowPlanesOutcome}
 use Rattle.face_filters.specs.Words.{flag}
 use Rattle.face_laws.proofs.Determined.{Determined}

@@ -4,7 +4,7 @@ ghost use mathlib.Core.Path.{_≡_};
 ghost use Rattle.picture.specs.Answer.{answered, lent, lentCopy};
 ghost use Rattle.planes.specs.Outcome.{toPlanesOutcome, fromPlanesOutcome};
 ghost use Rattle.plane_shift.specs.Shifted.{shiftPlanesOutcome};
-ghost use Rattle.plane_filters.specs.Outcome.{blurPlanesOutcome};
+ghost use Rattle.plane_blur.specs.Outcome.{blurPlanesOutcome};
 ghost use Rattle.plane_shadow.specs.Outcome.{shadowPlanesOutcome};
 ghost use Rattle.face_filters.specs.Words.{recipe, flag};
 
@@ -38,7 +38,7 @@ pub extern "C" fn corbelrush_blur_planes(
 ) -> u32
     ensures { λ r. ⌜ answered r (lent (now (planes .exit)) (now (scratch .exit))) ≡ blurPlanesOutcome (now (planes .entry)) w h (now (scratch .entry)) (now (weights .entry)) n strength edge ⌝ }
 {
-    plane_filters::blur_planes(planes, w, h, scratch, weights, n, strength, edge)
+    plane_blur::blur_planes(planes, w, h, scratch, weights, n, strength, edge)
 }
 
 // Moves four planes of w by h by dx and dy, as `shift_planes` does.

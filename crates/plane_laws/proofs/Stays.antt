@@ -25,8 +25,8 @@ use Rattle.premultiplied.proofs.Shadows.{shadow-keeps}
 use Rattle.planes.specs.Planar.{planeOf, planar, interleaved, onPlanes}
 use Rattle.planes.proofs.Once.{length-interleaved, back}
 use Rattle.plane_shift.specs.Shifted.{shiftPlanesOutcome}
-use Rattle.plane_filters.specs.Outcome.{blurPlanesOutcome}
-use Rattle.plane_filters.proofs.Same.{blur-long}
+use Rattle.plane_blur.specs.Outcome.{blurPlanesOutcome}
+use Rattle.plane_blur.proofs.Same.{blur-long}
 use Rattle.plane_shadow.specs.Outcome.{shadowPlanesOutcome}
 use Rattle.plane_shadow.proofs.Same.{shadow-long}
 use Rattle.plane_laws.specs.Stays.{PremultipliedPlanes, AsPicture, LeavesPlanes, PlanesStay}

@@ -11,8 +11,8 @@ use Rattle.premultiplied.specs.Rule.{Premultiplied}
 use Rattle.planes.specs.Planar.{planeOf, interleaved}
 use Rattle.plane_shift.proofs.shift_planes.Reads as shift
 use Rattle.plane_shift.proofs.shift_planes.Kinds as shift-kinds
-use Rattle.plane_filters.proofs.blur_planes.Reads as blur
-use Rattle.plane_filters.proofs.blur_planes.Kinds as blur-kinds
+use Rattle.plane_blur.proofs.blur_planes.Reads as blur
+use Rattle.plane_blur.proofs.blur_planes.Kinds as blur-kinds
 use Rattle.plane_shadow.proofs.shadow_planes.Reads as shadow
 use Rattle.plane_shadow.proofs.shadow_planes.Kinds as shadow-kinds
 

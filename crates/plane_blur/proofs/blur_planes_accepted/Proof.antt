@@ -8,8 +8,8 @@ use Rattle.picture.specs.Planes.{cleared}
 use Rattle.picture.specs.Answer.{lent}
 use Rattle.gaussian_blur.proofs.Outcomes.{cleared-part}
 use borrow.Author.Needs.{needs}
-use Rattle.plane_filters.proofs.blur_planes_accepted.Statement.{statement}
-use Rattle.plane_filters.proofs.blur_planes_accepted.Tie as tie
+use Rattle.plane_blur.proofs.blur_planes_accepted.Statement.{statement}
+use Rattle.plane_blur.proofs.blur_planes_accepted.Tie as tie
 
 bytes-requires : tie.Need-bytes-requires
 bytes-requires c κs = c .before .before .before .pre .pictured .sized

@@ -4,11 +4,11 @@ use mathlib.Core.Bool.{false}
 use Rattle.picture.specs.Refusal.{wrongSides}
 use Rattle.picture.proofs.Answers.{refused, done}
 use Rattle.gaussian_blur.specs.Needs.{BlurAccepted}
-use Rattle.plane_filters.specs.Outcome.{blurPlanesOutcome}
+use Rattle.plane_blur.specs.Outcome.{blurPlanesOutcome}
 use Rattle.gaussian_blur.proofs.Outcomes.{accepted}
 use borrow.Author.Needs.{needs}
-use Rattle.plane_filters.proofs.blur_planes.Statement.{statement}
-use Rattle.plane_filters.proofs.blur_planes.Tie as tie
+use Rattle.plane_blur.proofs.blur_planes.Statement.{statement}
+use Rattle.plane_blur.proofs.blur_planes.Tie as tie
 
 returns : tie.Need-returns
 unfolding blurPlanesOutcome

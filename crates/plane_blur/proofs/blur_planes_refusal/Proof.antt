@@ -3,8 +3,8 @@ use mathlib.Core.Path.{ap}
 use mathlib.Core.Bool.{not}
 use borrow.Author.Needs.{needs}
 use Rattle.picture.proofs.Passed.{in-front, in-front-of, none}
-use Rattle.plane_filters.proofs.blur_planes_refusal.Statement.{statement}
-use Rattle.plane_filters.proofs.blur_planes_refusal.Tie as tie
+use Rattle.plane_blur.proofs.blur_planes_refusal.Statement.{statement}
+use Rattle.plane_blur.proofs.blur_planes_refusal.Tie as tie
 
 returns : tie.Need-returns
 returns c =

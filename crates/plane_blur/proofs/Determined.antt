@@ -6,8 +6,8 @@ use borrow.Fn.Kinds.{Dens, endedOf}
 use denote.Triple.Clauses.{AtExit}
 use denote.Ref.{now}
 use Rattle.picture.proofs.Answers.{lent-once}
-use Rattle.plane_filters.proofs.blur_planes.Reads as blur
-use Rattle.plane_filters.proofs.blur_planes.Kinds as blur-kinds
+use Rattle.plane_blur.proofs.blur_planes.Reads as blur
+use Rattle.plane_blur.proofs.blur_planes.Kinds as blur-kinds
 
 pub blur-planes-determined : (κs : Lfts 3) (a : Dens κs blur-kinds.ps) (r₁ r₂ : ℕ) (x₁ x₂ : AtExit (endedOf 3 blur-kinds.ps blur-kinds.r) κs) →
     blur.Post κs a r₁ x₁ → blur.Post κs a r₂ x₂ →

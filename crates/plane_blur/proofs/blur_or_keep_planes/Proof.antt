@@ -4,9 +4,9 @@ use native.Mathlib.Omega.{arith}
 use lib.Ieee.{ofBits}
 use borrow.Author.Needs.{needs}
 use Rattle.passes.specs.Forms.{ofPlanes, Formed}
-use Rattle.plane_filters.proofs.Native.{planes-bytes, planes-worked, planes-kept}
-use Rattle.plane_filters.proofs.blur_or_keep_planes.Statement.{statement}
-use Rattle.plane_filters.proofs.blur_or_keep_planes.Tie as tie
+use Rattle.plane_blur.proofs.Native.{planes-bytes, planes-worked, planes-kept}
+use Rattle.plane_blur.proofs.blur_or_keep_planes.Statement.{statement}
+use Rattle.plane_blur.proofs.blur_or_keep_planes.Tie as tie
 
 apply-blur-requires : tie.Need-apply-blur-requires
 apply-blur-requires c κs =

@@ -15,7 +15,7 @@ use Rattle.planes.specs.Planar.{planar, interleaved}
 use Rattle.planes.proofs.Same.{seen, same-answer}
 use Rattle.gaussian_blur.specs.Blurred.{blurred}
 use Rattle.gaussian_blur.specs.Outcome.{blurChecks, aboveZero, blurredOrKept, blurOutcome}
-use Rattle.plane_filters.specs.Outcome.{blurPlanesOutcome}
+use Rattle.plane_blur.specs.Outcome.{blurPlanesOutcome}
 
 module _ (w h : ℕ) (p : List ℕ) (e : length p ≡ bytesOf w h) where
   -- the length is kept

@@ -1,9 +1,9 @@
 -- The picture is made in the scratch, blurred there, and made into planes again.
 use borrow.Author.Needs.{needs}
 use Rattle.gaussian_blur.specs.Outcome.{blurredOrKept}
-use Rattle.plane_filters.proofs.Worked.{worked}
-use Rattle.plane_filters.proofs.blur_converted.Statement.{statement}
-use Rattle.plane_filters.proofs.blur_converted.Tie as tie
+use Rattle.plane_blur.proofs.Worked.{worked}
+use Rattle.plane_blur.proofs.blur_converted.Statement.{statement}
+use Rattle.plane_blur.proofs.blur_converted.Tie as tie
 
 returns : tie.Need-returns
 returns c =

@@ -1,7 +1,7 @@
 -- Either way the planes are what the picture becomes.
 use borrow.Author.Needs.{needs}
-use Rattle.plane_filters.proofs.apply_blur_planes.Statement.{statement}
-use Rattle.plane_filters.proofs.apply_blur_planes.Tie as tie
+use Rattle.plane_blur.proofs.apply_blur_planes.Statement.{statement}
+use Rattle.plane_blur.proofs.apply_blur_planes.Tie as tie
 
 returns : tie.Need-returns
 returns c = c .before .before .before .before .blur-converted .ensures

@@ -9,7 +9,7 @@ ghost use Rattle.picture.specs.Answer.{answered, lent};
 ghost use Rattle.planes.specs.Planar.{onPlanes};
 ghost use Rattle.gaussian_blur.specs.Needs.{BlurReady, BlurAccepted};
 ghost use Rattle.gaussian_blur.specs.Outcome.{blurChecks, blurredOrKept};
-ghost use Rattle.plane_filters.specs.Outcome.{blurPlanesOutcome};
+ghost use Rattle.plane_blur.specs.Outcome.{blurPlanesOutcome};
 
 // Planes of fewer bytes to a row are converted: line by line they cost more, up to 1.67 of a picture's blur at 16 square and 1.09 at 128, and with
 // two decimations 3.2 and 1.25; at 256 square it is 1.05 and 0.99.
