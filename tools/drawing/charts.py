@@ -86,26 +86,19 @@ def beside_rust():
 EACH = 1e6 / 4096 ** 2  # nanoseconds a pixel of a millisecond a picture
 
 
-def blurs_beside_opencv():
-    """The same of blurs at 4096 square, beside OpenCV, of milliseconds a picture."""
-    head, *rows = table('PERFORMANCE.md', '## Blur, beside OpenCV')
+def beside_opencv(heading, words):
+    """The same of what a table has beside OpenCV, of milliseconds a picture of 4096 square."""
+    head, *rows = table('PERFORMANCE.md', heading)
     ours, other = head.index('library'), head.index('OpenCV')
-    return [('blur, %s, n = 0' % row[0], EACH * float(row[ours]), EACH * float(row[other]), OPENCV) for row in rows]
-
-
-def beside_opencv():
-    """The same of image files."""
-    head, *rows = table('PERFORMANCE.md', '## Image files, beside OpenCV')
-    before, now, other = (head.index(name) for name in ('before', 'now', 'OpenCV'))
-    return [('image file ' + row[0], EACH * float(row[before if row[now] == 'as before' else now]), EACH * float(row[other]),
-             OPENCV) for row in rows]
+    return [(words % row[0], EACH * float(row[ours]), EACH * float(row[other]), OPENCV) for row in rows]
 
 
 def speed():
     """Nanoseconds a pixel beside the Rust and OpenCV."""
-    lines = beside_rust() + blurs_beside_opencv() + beside_opencv()
+    lines = beside_rust() + beside_opencv('## Blur, beside OpenCV', 'blur, %s, n = 0')
+    lines += beside_opencv('## Image files, beside OpenCV', 'image file %s')
     scene = headed(960, 140 + 30 * len(lines) + 84, 'Nanoseconds a pixel, 4096 by 4096',
-                   'Each mark is ten times the one before. Arm (Neoverse-N1), blurs under Duplicate (docs/PERFORMANCE.md).')
+                   'Each mark is ten times the one before. Arm (Neoverse-V1), blurs under Duplicate (docs/PERFORMANCE.md).')
     left, top, decade, floor = 290, 118, 150, 118 + 30 * len(lines)
     place = lambda value: round(left + decade * (math.log10(value) + 1), 2)
     for power in range(5):
