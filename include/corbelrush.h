@@ -31,6 +31,9 @@
  *
  * The functions keep nothing between calls, allocate nothing and read nothing but their arguments, so threads may call
  * them at the same time on different buffers. A call uses less than 256 KiB of stack, whatever it is handed.
+ *
+ * A library that was made for any x86-64 processor (tools/native-lib OUTDIR any) also asks the processor what it is, once,
+ * when a program is loaded. Which machine code a call runs depends on that, and no answer does.
  */
 #ifndef CORBELRUSH_H
 #define CORBELRUSH_H

@@ -112,10 +112,12 @@ static uint64_t started(uint32_t version)
 static void of_plates(void)
 {
     uint64_t used = started(1), none;
+    uint32_t last;
     limit(CORBELRUSH_DONE, corbelrush_plate_start(buffer, sizeof buffer, CORBELRUSH_MAX_PLATE_VERSION + 1, &none),
           CORBELRUSH_BROKEN_PLATE, "MAX_PLATE_VERSION");
     for (int i = 1; i < CORBELRUSH_MAX_PLATE_PICTURES; i++) must(added(&used, 1, 1) == CORBELRUSH_DONE, "a picture is not added");
-    limit(added(&used, 1, 1), added(&used, 1, 1), CORBELRUSH_NO_ROOM, "MAX_PLATE_PICTURES");
+    last = added(&used, 1, 1); /* by itself: C leaves open which argument of a call is worked out first */
+    limit(last, added(&used, 1, 1), CORBELRUSH_NO_ROOM, "MAX_PLATE_PICTURES");
     used = started(2);
     must(added(&used, 1023, 3) == CORBELRUSH_DONE && added(&used, 1, 1013) == CORBELRUSH_DONE, "a plate is not filled");
     must(added(&used, 2, 1) == CORBELRUSH_NO_ROOM && added(&used, 1, 1) == CORBELRUSH_DONE, "a plate's last bytes");

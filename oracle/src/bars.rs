@@ -37,12 +37,21 @@ pub fn print(rows: &[Row]) {
     let bars = [
         ("n = 0 at 1024 and 4096 square", 0.25, flat),
         ("n = 2 at 4096 square", 0.15, deep),
+        (
+            "in whole numbers at 1024 square",
+            0.36,
+            ratios(rows, |name, size| name.starts_with("whole") && square(size, &[1024])),
+        ),
         ("shift", 0.50, ratios(rows, |name, _| name.starts_with("shift"))),
         (
             "shadow but for 16 and 64 square",
             0.30,
             ratios(rows, |name, size| name.starts_with("shadow") && !small(size)),
         ),
+        ("5 taps, n = 0", 0.12, ratios(rows, |name, _| name.starts_with("blur n 0 taps 5"))),
+        ("every line", 0.25, ratios(rows, |name, _| !name.starts_with("whole"))),
+        ("shadow alone", 0.08, ratios(rows, |name, _| name == "shadow alone")),
+        ("shadow with original", 0.05, ratios(rows, |name, _| name == "shadow with original")),
         ("everything at 16 and 64 square", 0.60, ratios(rows, |_, size| small(size))),
         ("a pixel at 4096 square against 256", 1.2, growth(rows, |name| name != "shift by half")),
         ("that of a shift by half, at memory's speed", 1.2, growth(rows, |name| name == "shift by half")),

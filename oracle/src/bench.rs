@@ -2,6 +2,7 @@
 //! Inside the library's time: clearing the work buffers. Inside the Rust's: the shadow's clone.
 //! Outside both: putting the input back, the first allocation of work buffers.
 use crate::bars;
+use crate::busy;
 use crate::case::{call, Case, Entry, Part, Parts};
 use crate::inputs::bell;
 use crate::library::{under_test, Library};
@@ -18,7 +19,20 @@ const LEAST_ROUNDS: u32 = 3;
 const MOST_ROUNDS: u32 = 25;
 const TIME_A_LINE: Duration = Duration::from_millis(400);
 
-/// The list: blurs by taps and n in each mode, shift, shadow with and without the original.
+/// A blur in whole numbers, and beside it, for the Rust, the blur with the same weights.
+fn whole(numerators: Vec<u32>, edge: u32, plain: &Case) -> Case {
+    let weights = numerators.iter().map(|m| *m as f32 / 65536.0).collect();
+    Case { entry: Entry::BlurWhole, weights, numerators, edge, ..plain.clone() }
+}
+
+/// Numerators that sum to 65536.
+fn numerators(taps: u32) -> Vec<u32> {
+    let mut numerators = vec![65536 / taps; taps as usize];
+    numerators[0] += 65536 % taps;
+    numerators
+}
+
+/// The list: blurs by taps and n in each mode, in whole numbers too, shift, shadow with and without the original.
 fn list(w: u32, h: u32) -> Vec<(String, Case)> {
     let mut random = Random::new(9);
     let plain = Case::new(Entry::Blur, w, h, (0..4 * w * h).map(|_| random.byte()).collect());
@@ -28,6 +42,8 @@ fn list(w: u32, h: u32) -> Vec<(String, Case)> {
             let case = Case { weights: bell(taps), n, edge: edge as u32, ..plain.clone() };
             lines.push((format!("blur n {n} taps {taps} {mode}"), case));
         }
+        lines.push((format!("whole n 0 taps 13 {mode}"), whole(numerators(13), edge as u32, &plain)));
+        lines.push((format!("whole n 0 of 0, 65536, 0 {mode}"), whole(vec![0, 65536, 0], edge as u32, &plain)));
     }
     let moved = Case { dx: 3.0, dy: -2.0, weights: bell(13), n: 1, colour: [0.2, 0.4, 0.6, 0.8], ..plain };
     let shift = Case { entry: Entry::Shift, ..moved.clone() };
@@ -78,7 +94,7 @@ impl Theirs {
     fn new(case: &Case, count: usize) -> Theirs {
         let one = Pixmap::from_bytes(case.w as u16, case.h as u16, &case.picture);
         let mut scratch = Scratch::default();
-        if let Some(filters) = published().filter(|_| case.blurs()) {
+        if let Some(filters) = published().filter(|_| case.convolves()) {
             (filters.blur)(
                 &blur_of(&Case { n: 0, weights: vec![1.0], ..case.clone() }),
                 &mut one.clone(),
@@ -94,7 +110,7 @@ impl Theirs {
         let begun = Instant::now();
         for pixmap in &mut self.pictures {
             match case.entry {
-                Entry::Blur => (filters.blur)(&blur, pixmap, &mut self.scratch),
+                Entry::Blur | Entry::BlurWhole => (filters.blur)(&blur, pixmap, &mut self.scratch),
                 Entry::Shift => (filters.shift)(pixmap, case.dx, case.dy),
                 _ => (filters.shadow)(&shadow, pixmap, &mut self.scratch),
             }
@@ -146,8 +162,18 @@ fn outputs(case: &Case, ours: &[u8], theirs: &Pixmap) -> &'static str {
     "listed difference; mended Rust gives the same bytes"
 }
 
-const SIZES: [(u32, u32); 9] =
-    [(16, 16), (64, 64), (256, 256), (1024, 1024), (4096, 1), (1, 4096), (4096, 16), (16, 4096), (4096, 4096)];
+const SIZES: [(u32, u32); 10] = [
+    (16, 16),
+    (64, 64),
+    (256, 256),
+    (1024, 1024),
+    (4096, 1),
+    (1, 4096),
+    (3, 4096),
+    (4096, 16),
+    (16, 4096),
+    (4096, 4096),
+];
 
 /// A line's name, its size and what it measured.
 pub type Row = (String, (u32, u32), Measured);
@@ -180,6 +206,7 @@ pub fn print(largest: u32) {
     println!("{} beside the Rust as published; best of {LEAST_ROUNDS} to {MOST_ROUNDS} rounds", library.name);
     println!("inside the times: our clearing of work buffers, the Rust's clone in the shadow");
     println!("outside: putting the input back, the first allocation of work buffers and of the Rust's scratch");
+    let begun = busy::ticks();
     let mut rows: Vec<Row> = Vec::new();
     for (w, h) in SIZES.into_iter().filter(|(w, h)| *w.max(h) <= largest) {
         for (name, case) in list(w, h) {
@@ -192,4 +219,5 @@ pub fn print(largest: u32) {
     print_sizes(&rows);
     print_ratios(&rows);
     bars::print(&rows);
+    println!("{}", busy::since(begun));
 }

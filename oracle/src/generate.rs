@@ -49,6 +49,7 @@ pub fn all(amount: Amount, take: Take) {
         larger_cases::longest_jobs(&mut random, take);
     }
     larger_cases::longest_plates(&mut random, take);
+    plane_cases::by_blocks(&mut Random::new(13), take);
     refusals(&mut random, &ENTRIES, amount.of(8, 60), u32::MAX, take);
     samples(&mut random, take);
     premultiplied::counterexamples().into_iter().for_each(&mut *take);

@@ -1,5 +1,6 @@
 //! The largest picture, run by hand: every row of what the library makes of it is compared with the rules, which are
 //! computed row by row from a picture that is a formula, so that none of their planes is as large; and what a pixel costs.
+use crate::busy;
 use crate::case::{call, Case, Entry, Part, Parts};
 use crate::inputs::bell;
 use crate::library::under_test;
@@ -277,9 +278,26 @@ pub fn compare(side: u32, part: &str) -> bool {
     wanted.filter(|(name, case)| !compare_one(name, case)).count() == 0
 }
 
-/// What a pixel of blur and shadow costs at 1024 and at the largest side, in one process: the best of some calls.
+/// What a pixel costs where its four bytes are only copied: the best of some calls, in nanoseconds.
+fn copied(side: u32, calls: u32) -> f64 {
+    let pixels = side as usize * side as usize;
+    let (from, mut to) = (vec![1u8; 4 * pixels], vec![2u8; 4 * pixels]);
+    let call = |_| {
+        let begun = Instant::now();
+        to.copy_from_slice(std::hint::black_box(&from));
+        std::hint::black_box(&to);
+        begun.elapsed()
+    };
+    (0..calls).map(call).min().unwrap_or_default().as_nanos() as f64 / pixels as f64
+}
+
+/// The small picture that the largest is held against.
+const SMALL: u32 = 256;
+
+/// What a pixel of blur and shadow costs in a small picture and at the largest side, in one process: the best of some calls.
 pub fn costs(side: u32) {
     println!("{}; ns of a processor a pixel, best call", under_test().name);
+    let begun = busy::ticks();
     let thirteen = |side: u32| Case { w: side, h: side, weights: bell(13), ..Case::plain(Entry::Blur, Vec::new()) };
     let shadow = |side: u32| Case {
         entry: Entry::Shadow,
@@ -289,7 +307,8 @@ pub fn costs(side: u32) {
         colour: [0.2, 0.4, 0.6, 0.8],
         ..thirteen(side)
     };
-    let lines: [(&str, &dyn Fn(u32) -> Case); 6] = [
+    let lines: [(&str, &dyn Fn(u32) -> Case); 7] = [
+        ("blur n = 0, 5 taps", &|side| Case { weights: bell(5), ..thirteen(side) }),
         ("blur n = 0, 13 taps", &|side| thirteen(side)),
         ("blur n = 1, 13 taps", &|side| Case { n: 1, ..thirteen(side) }),
         ("blur n = 2, 13 taps", &|side| Case { n: 2, ..thirteen(side) }),
@@ -304,9 +323,12 @@ pub fn costs(side: u32) {
             let times = (0..calls).map(|_| buffers.call(&case)).min().unwrap_or_default();
             times.as_nanos() as f64 / f64::from(side) / f64::from(side)
         };
-        let before = best(1024, 40);
+        let before = best(SMALL, 40);
         let large = best(side, 3);
-        let small = before.min(best(1024, 40));
-        println!("{name}: 1024 square {small:.2}, {side} square {large:.2}, ratio {:.3}", large / small);
+        let small = before.min(best(SMALL, 40));
+        println!("{name}: {SMALL} square {small:.2}, {side} square {large:.2}, ratio {:.3}", large / small);
     }
+    let (small, large) = (copied(SMALL, 400), copied(side, 3));
+    println!("a copy of the bytes: {SMALL} square {small:.2}, {side} square {large:.2}, ratio {:.3}", large / small);
+    println!("{}", busy::since(begun));
 }

@@ -2,6 +2,7 @@
 mod area_cases;
 mod bars;
 mod bench;
+mod busy;
 mod case;
 mod compare;
 mod distance;

@@ -78,6 +78,15 @@ fn conversions(random: &mut Random, take: Take) {
     }
 }
 
+/// Pictures that no cache holds, which are made into planes by blocks of 64 pixels: the smallest such, which is whole
+/// blocks, and one that ends within a block.
+pub fn by_blocks(random: &mut Random, take: Take) {
+    for (w, h) in [(2048, 1024), (1451, 1447)] {
+        take(convert(random, Entry::ToPlanes, w, h, 5));
+        take(convert(random, Entry::FromPlanes, w, h, 5));
+    }
+}
+
 /// Sides that are wrong, and bytes that are too few or too many, with rooms of some lengths.
 fn lengths(random: &mut Random, take: Take) {
     let large = [0, 1, 2, LARGEST_SIDE, LARGEST_SIDE + 1, 65536, 1 << 31, u32::MAX];

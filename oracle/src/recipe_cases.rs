@@ -318,6 +318,14 @@ pub fn all(random: &mut Random, take: Take) {
     }
 }
 
+/// A list of three on 3 by 2 pixels in which two recipes are bad, or one twice.
+fn bad_pair(random: &mut Random, first: u32, second: u32, twice: bool) -> Case {
+    let (mut case, i, j) = apart(random, 3);
+    spoil_step(random, &mut case, i, first);
+    spoil_step(random, &mut case, if twice { i } else { j }, second);
+    Case { picture: case.picture[..24].to_vec(), w: 3, h: 2, scratch: 24, copy: 25, ..case }
+}
+
 /// Small ones to be stored.
 pub fn stored(random: &mut Random) -> Vec<Case> {
     let mut cases = Vec::new();
@@ -330,11 +338,7 @@ pub fn stored(random: &mut Random) -> Vec<Case> {
         cases.push(chain(random, 3, 2, &operations));
     }
     for (first, second) in OWN.into_iter().flat_map(|a| OWN.map(|b| (a, b))).filter(|(a, b)| a != b) {
-        let (mut case, i, j) = apart(random, 3);
-        let same = (first + second) % 3 == 0;
-        spoil_step(random, &mut case, i, first);
-        spoil_step(random, &mut case, if same { i } else { j }, second);
-        cases.push(Case { picture: case.picture[..24].to_vec(), w: 3, h: 2, scratch: 24, copy: 25, ..case });
+        cases.push(bad_pair(random, first, second, (first + second) % 3 == 0));
     }
     for group in [tables, taps, frames, kept] {
         let mut turn = 0;
@@ -347,6 +351,10 @@ pub fn stored(random: &mut Random) -> Vec<Case> {
     }
     cases.extend(limits(random));
     cases.extend(eights(random));
+    // those pairs that are of one recipe above, of two
+    let mut random = Random::new(23);
+    let pairs = OWN.into_iter().flat_map(|a| OWN.map(|b| (a, b))).filter(|(a, b)| a != b && (a + b) % 3 == 0);
+    cases.extend(pairs.map(|(first, second)| bad_pair(&mut random, first, second, false)));
     cases.retain(|case| case.weights.len() <= 3 * MOST_TAPS + 32);
     cases
 }

@@ -14,10 +14,10 @@ use Rattle.edges.specs.declared.At.{At}
 use Rattle.edges.specs.declared.At.the-variants.{Inside, Outside}
 use Rattle.edges.specs.Edges.{place, valueAt, sample}
 use Rattle.edges.specs.Whole.{placeOf}
-use Rattle.edges.proofs.Samples.{sample-relates}
 use Rattle.edges.proofs.Whole.{from-zero, place-is}
 use Rattle.binary32.specs.Grid.{sum}
 use Rattle.binary32.specs.Taps.{sumTo}
+use Rattle.passes.proofs.Taps.{sample-most}
 use Rattle.grid_sums.specs.Sums.{gridSum}
 use Rattle.exact_blur.specs.Exact.{exactHalve, exactDouble, exactConvolve}
 use Rattle.share_laws.proofs.Sums.{sum-is, sum-most}
@@ -38,7 +38,7 @@ module _ (mode : EdgeMode) (s : ℕ) where
 
   -- samples of ones are at most 1
   pub one-most : (c d : ℕ) → sample mode s (λ _. 1) c d ≤ 1
-  one-most c d = sample-relates mode s (λ _. 1) (λ _. 1) c d (λ a _. a ≤ 1) (omega arith) (λ i. omega arith)
+  one-most c d = sample-most mode (λ _. 1) 1 (λ i. omega arith) s c d
 
   module _ (taps : List ℕ) (c d v : ℕ) where
     pub taps-none : (row : List ℕ) → Gained row row (λ l. v * tapsTo mode taps s l c d 0)

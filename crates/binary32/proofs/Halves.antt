@@ -2,7 +2,7 @@
 use mathlib.Core.Path.{_≡_, sym, ap, _∙_, subst}
 use mathlib.Core.Bool.{not}
 use Prim.Native.Nat.{ℕ, suc, _+_, _*_, _/_, _%_, _≤_, _<_, compare, Ordering, Ordering·lt, Ordering·eq, Ordering·gt}
-use native.Mathlib.Nat.{zero-lt-suc, le-of-eq, le-antisymm, mul-comm, mul-left-comm, mul-mul-mul-comm, add-mul, mul-pos, mod-lt, div-add-mod', div-div-eq-div-mul, div-eq-of-lt, div-eq-of-lt-le, add-div-right, add-mod-right, add-mul-div-right}
+use native.Mathlib.Nat.{zero-lt-suc, le-of-eq, le-antisymm, mul-comm, mul-left-comm, mul-mul-mul-comm, add-mul, mul-pos, mod-lt, div-add-mod', div-div-eq-div-mul, div-eq-of-lt, div-eq-of-lt-le, add-div-right, add-mod-right, add-mul-div-right, mul-assoc, lt-of-mul-lt-mul-right}
 use native.Mathlib.Numerals.{add-one}
 use native.Mathlib.Omega.{arith}
 use lib.Arith.{lt-of-le-ne}
@@ -86,3 +86,24 @@ half-up-mean a c C =
   where
     swap : (m n : ℕ) → n + m ≡ m + n
     swap m n = omega arith
+
+-- ---- of a fraction that is less than a half away from q, one of them is enough
+near : (w r c q : ℕ) (o : Ordering) → Cmp o (r * 2) c → 2 * q * c < 2 * (w * c + r) + c → 2 * (w * c + r) < 2 * q * c + c → r < c → nearest w o ≡ q
+near w r c q o h a b l = by o h
+  where
+    -- what holds of the products with c holds of the numbers
+    under : (m n : ℕ) → m * c < n * c → m < n
+    under m n k = lt-of-mul-lt-mul-right c k
+
+    low : w ≤ q
+    low = omega (arith, under (2 * w) (2 * q + 1) (omega (arith, mul-assoc 2 w c, mul-assoc 2 q c, add-mul (2 * q) 1 c)))
+
+    by : (o : Ordering) → Cmp o (r * 2) c → nearest w o ≡ q
+    by Ordering·lt k = omega (arith, low, under (2 * q) (2 * w + 2) (omega (arith, mul-assoc 2 w c, mul-assoc 2 q c, add-mul (2 * w) 2 c)))
+    by Ordering·eq k = absurd (omega (arith, under (2 * q) (2 * w + 2) (omega (arith, mul-assoc 2 w c, mul-assoc 2 q c, add-mul (2 * w) 2 c)), under (2 * w) (2 * q) (omega (arith, mul-assoc 2 w c, mul-assoc 2 q c))))
+    by Ordering·gt k = omega (arith, under (2 * q) (2 * w + 3) (omega (arith, mul-assoc 2 w c, mul-assoc 2 q c, add-mul (2 * w) 3 c)), under (2 * w) (2 * q) (omega (arith, mul-assoc 2 w c, mul-assoc 2 q c)))
+
+pub closest-near : (a c q : ℕ) → 0 < c → 2 * q * c < 2 * a + c → 2 * a < 2 * q * c + c → closest a c ≡ q
+closest-near a c q C h k =
+    let split = div-add-mod' a c in
+    near (a / c) (a % c) c q (compare (a % c * 2) c) (cmp (a % c * 2) c) (rw split h) (rw split k) (mod-lt a C)

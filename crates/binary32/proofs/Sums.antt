@@ -3,7 +3,7 @@ use mathlib.Core.Path.{_≡_, refl, sym, ap, _∙_, subst}
 use mathlib.Core.Logic.{inr}
 use mathlib.Core.Bool.{false, not}
 use Prim.Native.Nat.{ℕ, suc, _+_, _-_, _*_, _/_, _%_, _^_, _≤_, _<_}
-use native.Mathlib.Nat.{zero-lt-suc, le-trans, le-of-eq, le-of-lt, le-antisymm, lt-of-lt-of-le, lt-of-le-of-lt, lt-of-not-le, not-le-of-lt, mul-one, mul-comm, mul-assoc, mul-right-comm, mul-pos, mul-le-mul-right, mul-lt-mul-of-pos-right, eq-of-mul-eq-mul-right, le-div-iff-mul-le, div-lt-iff-lt-mul, mul-div-cancel}
+use native.Mathlib.Nat.{zero-lt-suc, le-trans, le-of-eq, le-of-lt, le-antisymm, lt-of-lt-of-le, lt-of-le-of-lt, lt-of-not-le, not-le-of-lt, mul-one, mul-comm, mul-assoc, mul-right-comm, mul-pos, mul-le-mul-right, mul-lt-mul-of-pos-right, eq-of-mul-eq-mul-right, le-div-iff-mul-le, div-lt-iff-lt-mul, mul-div-cancel, mul-add, add-mul}
 use native.Mathlib.Omega.{arith}
 use lib.Dec.{T, lit<}
 use lib.Pow.{pow-pos, pow-mono}
@@ -17,7 +17,7 @@ use lib.Ieee.Positive.{num, den, den-pos, value→cross}
 use lib.Ieee.Scale.{round-val, grid}
 use Rattle.binary32.specs.Ranges.{nonneg}
 use Rattle.binary32.specs.Round.{roundHalfUp}
-use Rattle.binary32.proofs.Halves.{half-up-le, half-up-add, half-up-mean}
+use Rattle.binary32.proofs.Halves.{half-up-le, half-up-add, half-up-mean, closest-near}
 use Rattle.binary32.proofs.Values.{plain-nonneg, plain-of-value, add-at}
 use Rattle.binary32.proofs.Written.{plain-told, bitsOf, bits-are}
 
@@ -77,12 +77,11 @@ record Reads (z : Float) (q : ℕ) : Type 0 where
   bits : toBits binary32 z ≡ 1249902592 + q
   small : q ≤ 8388864
 
-sum-bits : (x y : Float) (b : ℕ) → T (nonneg x) → num x ≤ 255 * den x → HasValue y false b 1 → 8388608 ≤ b → b ≤ 8388609 → Reads (add binary32 x y) (sum x b)
-sum-bits x y b p m v l h =
+sum-bits : (x y : Float) (b : ℕ) → T (nonneg x) → num x + b * den x ≤ 8388864 * den x → HasValue y false b 1 → 8388608 ≤ b → Reads (add binary32 x y) (sum x b)
+sum-bits x y b p m v l =
     let D = den x in
     let d = den-pos x in
     let B : 8388608 * D ≤ b * D = mul-le-mul-right D l in
-    let E : b * D ≤ 8388609 * D = mul-le-mul-right D h in
     let low : 8388608 ≤ sum x b = closest-mono 8388608 1 (num x + b * D) D (zero-lt-suc 0) d (omega arith) in
     let high : sum x b ≤ 8388864 = closest-mono (num x + b * D) D 8388864 1 d (zero-lt-suc 0) (omega arith) in
     let w : HasValue (add binary32 x y) false (sum x b) 1 = rw (add-whole x y b p v) (whole-rounded (num x + b * D) D d (omega arith) (omega arith)) in
@@ -97,10 +96,10 @@ odd32 = fin false 8388609 (pos 0)
 
 module _ (x : Float) (p : T (nonneg x)) (m : num x ≤ 255 * den x) where
   first : Reads (add binary32 x even32) (sum x 8388608)
-  first = sum-bits x even32 8388608 p m (refl, refl) (omega arith) (omega arith)
+  first = sum-bits x even32 8388608 p (omega arith) (refl, refl) (omega arith)
 
   second : Reads (add binary32 x odd32) (sum x 8388609)
-  second = sum-bits x odd32 8388609 p m (refl, refl) (omega arith) (omega arith)
+  second = sum-bits x odd32 8388609 p (omega arith) (refl, refl) (omega arith)
 
   mean : (sum x 8388608 + sum x 8388609) / 2 ≡ roundHalfUp x + 8388608
   unfolding roundHalfUp
@@ -124,3 +123,17 @@ module _ (x : Float) (p : T (nonneg x)) (m : num x ≤ 255 * den x) where
   pub sums-round : (toBits binary32 (add binary32 x even32) + toBits binary32 (add binary32 x odd32)) / 2 % 256 ≡ roundHalfUp x
   unfolding roundHalfUp
   sums-round = omega (arith, first, second, mean, half-up-le (num x) (den x) 255 (den-pos x) m)
+
+-- ---- the first sum alone, where x is less than a half away from a whole number
+module _ (x : Float) (p : T (nonneg x)) (m : num x ≤ 256 * den x) where
+  alone : Reads (add binary32 x even32) (sum x 8388608)
+  alone = sum-bits x even32 8388608 p (omega arith) (refl, refl) (omega arith)
+
+  pub alone-told : T (not (isNan (add binary32 x even32)))
+  alone-told = alone .told
+
+  pub alone-near : (q : ℕ) → 2 * q * den x < 2 * num x + den x → 2 * num x < 2 * q * den x + den x → toBits binary32 (add binary32 x even32) ≡ 1258291200 + q
+  alone-near q l h = omega (arith, alone .bits, closest-near (num x + 8388608 * den x) (den x) (8388608 + q) (den-pos x) (rw (twice q) (omega arith)) (rw (twice q) (omega arith)))
+    where
+      twice : (q : ℕ) → 2 * (8388608 + q) * den x ≡ 16777216 * den x + 2 * q * den x
+      twice q = rw (mul-add 2 8388608 q) (add-mul 16777216 (2 * q) (den x))

@@ -9,7 +9,6 @@ use lib.Ieee.{Float, nan}
 use lib.ListN.{length, getD}
 use Rattle.picture.specs.declared.EdgeMode.{EdgeMode}
 use Rattle.edges.specs.Edges.{sample}
-use Rattle.edges.proofs.Samples.{sample-relates}
 use Rattle.binary32.specs.Ranges.{nonneg}
 use Rattle.binary32.specs.Round.{toByte}
 use Rattle.binary32.specs.Taps.{taps}
@@ -18,20 +17,15 @@ use Rattle.binary32.proofs.Taps.{taps-bounded}
 use Rattle.binary32.proofs.Values.{plain-nonneg}
 use Rattle.passes.specs.Passes.{convolve}
 use Rattle.passes.specs.Written.{lane, lineByte}
+use Rattle.passes.proofs.Taps.{few-taps, sample-most}
 use Rattle.lanes.specs.Lanes.{widened, laneSum}
 use Rattle.lanes.proofs.Taps.{weighted-taps}
 use Rattle.blocks.specs.Blocks.{blockValue}
 use Rattle.passes.specs.Kernel.{Kernel}
-use Rattle.block_sums.proofs.Taps.{few-taps, most-taps}
 
 -- the line holds a block of m elements and what the taps add at its ends
 pub record Filled (mode : EdgeMode) (weights : List Float) (src : List ℕ) (start len stride from n x m : ℕ) (line : List Float) : Type 0 where
   pub value : (t : ℕ) → t < (m + (length weights - 1)) * n → getD line t nan ≡ blockValue mode src start len stride from n x (length weights / 2) t
-
--- a sample of bytes is a byte
-sample-byte : (mode : EdgeMode) (src : List ℕ) (start len stride k c d : ℕ) → ((i : ℕ) → getD src i 0 ≤ 255) → sample mode len (lane src start stride k) c d ≤ 255
-sample-byte mode src start len stride k c d b =
-    sample-relates mode len (lane src start stride k) (lane src start stride k) c d (λ v _. v ≤ 255) (omega arith) (λ i. b (start + i * stride + k))
 
 -- lane i of the m elements from element r on
 module _ {mode : EdgeMode} {weights : List Float} {src : List ℕ} {start len stride from n x m : ℕ} {line : List Float}
@@ -64,4 +58,4 @@ module _ {mode : EdgeMode} {weights : List Float} {src : List ℕ} {start len st
   pub lane-nonneg : ((b : ℕ) → getD src b 0 ≤ 255) → T (nonneg (laneSum line a n weights (length weights) i))
   lane-nonneg b =
       subst (λ (s : Float). T (nonneg s)) (sym lane-taps)
-      (plain-nonneg (taps read (weight weights) (length weights)) (taps-bounded read (weight weights) (length weights) (λ j l. sample-byte mode src start len stride _ _ _ b) (weights-of weights (k .inUnit)) (omega (arith, most-taps k, few-taps)) .0))
+      (plain-nonneg (taps read (weight weights) (length weights)) (taps-bounded read (weight weights) (length weights) (λ j l. sample-most mode _ 255 (λ e. b _) len _ _) (weights-of weights (k .inUnit)) (omega (arith, few-taps _ (k .counted))) .0))

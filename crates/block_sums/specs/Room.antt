@@ -1,4 +1,4 @@
--- What the convolution of a block asks of its kernel, its line and its buffers.
+-- What the convolution of a block asks of its kernel, its line and its buffer.
 use mathlib.Core.List.{List}
 use Prim.Native.Nat.{ℕ, _+_, _-_, _*_, _≤_, _<_, min}
 use lib.Ieee.{Float}
@@ -22,9 +22,7 @@ whole = 32
 abbrev pub lanes : ℕ
 lanes = 128
 
--- room for blocks of at most `most` elements of stride bytes: for the values of a strip with those that the taps read beyond its elements, for the sums of whole elements, and for those of a strip
-pub record BlockBuffers (line acc : List Float) (stride most : ℕ) : Type 0 where
+-- room for blocks of at most `most` elements of stride bytes: for the values of a strip, with those that the taps read beyond its elements
+pub record BlockRoom (line : List Float) (stride most : ℕ) : Type 0 where
   pub some : 0 < most
   pub values : (most + (maxTaps - 1)) * min stride lanes ≤ length line
-  pub sums : most * min stride whole ≤ length acc
-  pub strip : min stride lanes ≤ length acc

@@ -3,7 +3,7 @@
 ghost use Prim.Native.Nat.{_+_, _-_, _*_, _≤_, _<_, min};
 ghost use lib.ListN.{length};
 ghost use Rattle.block_sums.specs.Bytes.{Convolved, Elements, Strip};
-ghost use Rattle.block_sums.specs.Room.{Source, lanes, BlockBuffers};
+ghost use Rattle.block_sums.specs.Room.{Source, lanes, BlockRoom};
 use picture::EdgeMode;
 
 // Elements of at most this many bytes are taken whole: by themselves they are too few lanes for a loop, so that a block's elements are summed
@@ -17,7 +17,6 @@ pub const LANES: usize = 128;
 // Outputs x up to x + m of the line at start, whose elements are taken whole, into dst.
 pub fn convolve_whole(
     line: &mut [f32],
-    acc: &mut [f32],
     src: &[u8],
     start: usize,
     dst: &mut [u8],
@@ -29,19 +28,18 @@ pub fn convolve_whole(
     mode: EdgeMode,
 )
     requires { ⌜ Source (now src) (now weights) start len stride ⌝ ∗ ⌜ (0 < m) × (x + m ≤ len) ⌝ ∗ ⌜ len * stride ≤ length (now dst) ⌝
-        ∗ ⌜ (m + (length (now weights) - 1)) * stride ≤ length (now line) ⌝ ∗ ⌜ m * stride ≤ length (now acc) ⌝ }
+        ∗ ⌜ (m + (length (now weights) - 1)) * stride ≤ length (now line) ⌝ }
     ensures { λ _. ⌜ Convolved mode (now (weights .entry)) (now (src .entry)) start len stride (Elements stride x (x + m)) (now (dst .entry)) (now (dst .exit)) ⌝ }
 {
     let taps = weights.len();
     let more = taps - 1;
     blocks::fill_whole(line, m + more, src, start, len, stride, x, taps / 2, mode);
-    lanes::weigh(dst, x * stride, m * stride, acc, line, 0, stride, weights);
+    lanes::weigh(dst, x * stride, m * stride, line, 0, stride, weights);
 }
 
 // Of outputs x up to x + m of the line at start, n lanes from lane `from` on, into dst.
 fn convolve_strip(
     line: &mut [f32],
-    acc: &mut [f32],
     src: &[u8],
     start: usize,
     dst: &mut [u8],
@@ -55,7 +53,7 @@ fn convolve_strip(
     mode: EdgeMode,
 )
     requires { ⌜ Source (now src) (now weights) start len stride ⌝ ∗ ⌜ (0 < m) × (x + m ≤ len) ⌝ ∗ ⌜ len * stride ≤ length (now dst) ⌝
-        ∗ ⌜ (m + (length (now weights) - 1)) * n ≤ length (now line) ⌝ ∗ ⌜ (0 < n) × (from + n ≤ stride) × (n ≤ length (now acc)) ⌝ }
+        ∗ ⌜ (m + (length (now weights) - 1)) * n ≤ length (now line) ⌝ ∗ ⌜ (0 < n) × (from + n ≤ stride) ⌝ }
     ensures { λ _. ⌜ Convolved mode (now (weights .entry)) (now (src .entry)) start len stride (Strip stride x (x + m) from (from + n)) (now (dst .entry)) (now (dst .exit)) ⌝ }
 {
     let taps = weights.len();
@@ -76,16 +74,7 @@ fn convolve_strip(
     );
     let mut i = 0;
     while i < m {
-        lanes::weigh(
-            dst,
-            (x + i) * stride + from,
-            n,
-            acc,
-            line,
-            i * n,
-            n,
-            weights,
-        );
+        lanes::weigh(dst, (x + i) * stride + from, n, line, i * n, n, weights);
         i += 1;
     }
 }
@@ -93,7 +82,6 @@ fn convolve_strip(
 // Outputs x up to x + m of the line at start, strip by strip, into dst.
 fn convolve_strips(
     line: &mut [f32],
-    acc: &mut [f32],
     src: &[u8],
     start: usize,
     dst: &mut [u8],
@@ -105,7 +93,7 @@ fn convolve_strips(
     mode: EdgeMode,
 )
     requires { ⌜ Source (now src) (now weights) start len stride ⌝ ∗ ⌜ (0 < m) × (x + m ≤ len) ⌝ ∗ ⌜ len * stride ≤ length (now dst) ⌝
-        ∗ ⌜ (m + (length (now weights) - 1)) * min stride lanes ≤ length (now line) ⌝ ∗ ⌜ min stride lanes ≤ length (now acc) ⌝ }
+        ∗ ⌜ (m + (length (now weights) - 1)) * min stride lanes ≤ length (now line) ⌝ }
     ensures { λ _. ⌜ Convolved mode (now (weights .entry)) (now (src .entry)) start len stride (Elements stride x (x + m)) (now (dst .entry)) (now (dst .exit)) ⌝ }
 {
     let mut from = 0;
@@ -113,7 +101,6 @@ fn convolve_strips(
         let n = picture::least(LANES, stride - from);
         convolve_strip(
             line,
-            acc,
             src,
             start,
             dst,
@@ -133,7 +120,6 @@ fn convolve_strips(
 // Outputs x up to x + m of the line at start, whole or in strips, into dst.
 pub fn convolve_block(
     line: &mut [f32],
-    acc: &mut [f32],
     src: &[u8],
     start: usize,
     dst: &mut [u8],
@@ -144,12 +130,12 @@ pub fn convolve_block(
     weights: &[f32],
     mode: EdgeMode,
 )
-    requires { ⌜ Source (now src) (now weights) start len stride ⌝ ∗ ⌜ x + m ≤ len ⌝ ∗ ⌜ len * stride ≤ length (now dst) ⌝ ∗ ⌜ BlockBuffers (now line) (now acc) stride m ⌝ }
+    requires { ⌜ Source (now src) (now weights) start len stride ⌝ ∗ ⌜ x + m ≤ len ⌝ ∗ ⌜ len * stride ≤ length (now dst) ⌝ ∗ ⌜ BlockRoom (now line) stride m ⌝ }
     ensures { λ _. ⌜ Convolved mode (now (weights .entry)) (now (src .entry)) start len stride (Elements stride x (x + m)) (now (dst .entry)) (now (dst .exit)) ⌝ }
 {
     if stride <= WHOLE {
-        convolve_whole(line, acc, src, start, dst, len, stride, x, m, weights, mode);
+        convolve_whole(line, src, start, dst, len, stride, x, m, weights, mode);
     } else {
-        convolve_strips(line, acc, src, start, dst, len, stride, x, m, weights, mode);
+        convolve_strips(line, src, start, dst, len, stride, x, m, weights, mode);
     }
 }

@@ -1,5 +1,5 @@
--- Laws of the buffers: blocks for which there is room, and the buffers of long and of short lines.
-use mathlib.Core.Path.{_≡_, ap}
+-- Laws of the buffer: blocks for which there is room, and the buffers of long and of short lines.
+use mathlib.Core.Path.{_≡_}
 use mathlib.Core.List.{List}
 use mathlib.Core.Logic.{⊎-elim}
 use Prim.Native.Nat.{ℕ, _+_, _-_, _*_, _/_, _≤_, _<_, min}
@@ -8,44 +8,30 @@ use native.Mathlib.Omega.{arith}
 use lib.Ieee.{Float}
 use lib.ListN.{length, replicate, length-replicate}
 use Rattle.picture.specs.Refusal.{maxTaps}
+use Rattle.picture.proofs.Conditions.{right-taps}
 use Rattle.picture.proofs.Spans.{le-or-lt}
 use Rattle.passes.specs.Kernel.{Kernel}
-use Rattle.block_sums.specs.Room.{whole, lanes, BlockBuffers}
-use Rattle.block_sums.proofs.Taps.{most-taps}
+use Rattle.block_sums.specs.Room.{whole, lanes, BlockRoom}
 use Rattle.convolve.specs.Lines.{short}
 
--- buffers of the same sizes, and no more elements
-pub room-still : {line line′ acc acc′ : List Float} {stride most m : ℕ} → BlockBuffers line acc stride most → length line′ ≡ length line → length acc′ ≡ length acc → 0 < m → m ≤ most →
-    BlockBuffers line′ acc′ stride m
-room-still {stride = stride} {most = most} {m = m} b l a s h =
+-- a buffer of the same size, and no more elements
+pub room-still : {line line′ : List Float} {stride most m : ℕ} → BlockRoom line stride most → length line′ ≡ length line → 0 < m → m ≤ most → BlockRoom line′ stride m
+room-still {stride = stride} {most = most} {m = m} b l s h =
     let more : m + (maxTaps - 1) ≤ most + (maxTaps - 1) = omega arith in
-    record {
-      some = s;
-      values = omega (arith, b .values, mul-le-mul-right (min stride lanes) more);
-      sums = omega (arith, b .sums, mul-le-mul-right (min stride whole) h);
-      strip = omega (arith, b .strip);
-    }
+    record { some = s; values = omega (arith, b .values, mul-le-mul-right (min stride lanes) more) }
 
--- the small buffers, of (8 + 32) * 32 values and 8 * 32 sums, have room for a few small elements and what the taps add at their ends
-pub short-room : {weights : List Float} → Kernel weights → (m stride : ℕ) {l a : ℕ} → l ≡ 1280 → a ≡ 256 → m ≤ short → stride ≤ whole →
-    ((m + (length weights - 1)) * stride ≤ l) × (m * stride ≤ a)
+-- the small buffer, of (8 + 32) * 32 values, has room for a few small elements and what the taps add at their ends
+pub short-room : {weights : List Float} → Kernel weights → (m stride : ℕ) {l : ℕ} → l ≡ 1280 → m ≤ short → stride ≤ whole → (m + (length weights - 1)) * stride ≤ l
 unfolding maxTaps
-short-room {weights} w m stride l a h r =
-    let k : m + (length weights - 1) ≤ 40 = omega (arith, most-taps w) in
-    (omega (arith, mul-le-mul k r), omega (arith, mul-le-mul h r))
+short-room {weights} w m stride l h r =
+    let k : m + (length weights - 1) ≤ 40 = omega (arith, right-taps _ .0 (w .counted) .high) in
+    omega (arith, mul-le-mul k r)
 
--- the large buffers, of (1024 / 32 + 32) * 128 values and 1024 sums, have room for blocks of elements of any size
-pub long-room : {v : Float} {stride w : ℕ} → 0 < stride → w ≡ min stride whole → BlockBuffers (replicate 8192 v) (replicate 1024 v) stride (1024 / w)
+-- the large buffer, of (1024 / 32 + 32) * 128 values, has room for blocks of elements of any size
+pub long-room : {v : Float} {stride w : ℕ} → 0 < stride → w ≡ min stride whole → BlockRoom (replicate 8192 v) stride (1024 / w)
 unfolding maxTaps
 long-room {v} {stride} {w} z e =
-    let l = length-replicate 8192 v in
-    let a = length-replicate 1024 v in
-    record {
-      some = le-div-iff-mul-le {k = w} (omega arith) .1 (omega arith);
-      values = omega (arith, values);
-      sums = omega (arith, div-mul-le-self 1024 w, ap (λ (k : ℕ). 1024 / w * k) e);
-      strip = omega arith;
-    }
+    record { some = le-div-iff-mul-le {k = w} (omega arith) .1 (omega arith); values = omega (arith, values, length-replicate 8192 v) }
   where
     values : (1024 / w + 32) * min stride lanes ≤ 8192
     values =

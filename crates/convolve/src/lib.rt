@@ -7,32 +7,28 @@ ghost use Rattle.passes.specs.Passes.{convolve};
 ghost use Rattle.passes.specs.Forms.{formBytes, formPass, Formed};
 ghost use Rattle.passes.specs.Written.{lineByte, passed};
 ghost use Rattle.passes.specs.Kernel.{Kernel};
-ghost use Rattle.block_sums.specs.Room.{Source, whole, BlockBuffers};
+ghost use Rattle.block_sums.specs.Room.{Source, whole, BlockRoom};
 ghost use Rattle.convolve.specs.Lines.{ConvolveLines, short};
 use passes::Form;
 use picture::EdgeMode;
 use picture::LevelSize;
 
-// At most this many sums at a time. So a block has at least 32 elements, and the 32 more that 33 taps read at most double what is filled; the
-// sums and the values under them are 36 KiB of stack, zeroed once a pass.
-const SUMS: usize = 1024;
+// At most this many lanes of whole elements to a block. So a block has at least 32 elements, and the 32 more that 33 taps read at most double
+// what is filled; the values are 32 KiB of stack, zeroed once a pass.
+const BLOCK: usize = 1024;
 
-// The values under the sums: of a block's elements and of those that the taps read beyond it, a strip of each.
-const LINE: usize = (SUMS / block_sums::WHOLE + picture::MAX_TAPS - 1) * block_sums::LANES;
+// The values of a block: of its elements and of those that the taps read beyond it, a strip of each.
+const LINE: usize = (BLOCK / block_sums::WHOLE + picture::MAX_TAPS - 1) * block_sums::LANES;
 
-// Lines of at most this many elements that are taken whole go in buffers of 6 KiB: zeroing the large ones took some 0.8 µs of every small blur.
+// Lines of at most this many elements that are taken whole go in a buffer of 5 KiB: zeroing the large one took some 0.8 µs of every small blur.
 const SHORT: usize = 8;
 
-// The sums of a whole short line.
-const SHORT_SUMS: usize = SHORT * block_sums::WHOLE;
-
-// The values under them.
+// The values of a whole short line.
 const SHORT_LINE: usize = (SHORT + picture::MAX_TAPS - 1) * block_sums::WHOLE;
 
 // The line at start, in blocks of at most `most` elements, into dst.
 fn convolve_line(
     line: &mut [f32],
-    acc: &mut [f32],
     src: &[u8],
     start: usize,
     dst: &mut [u8],
@@ -42,13 +38,13 @@ fn convolve_line(
     weights: &[f32],
     mode: EdgeMode,
 )
-    requires { ⌜ Source (now src) (now weights) start len stride ⌝ ∗ ⌜ len * stride ≤ length (now dst) ⌝ ∗ ⌜ BlockBuffers (now line) (now acc) stride most ⌝ }
+    requires { ⌜ Source (now src) (now weights) start len stride ⌝ ∗ ⌜ len * stride ≤ length (now dst) ⌝ ∗ ⌜ BlockRoom (now line) stride most ⌝ }
     ensures { λ _. ⌜ ((j : ℕ) → j < len * stride → getD (now (dst .exit)) j 0 ≡ lineByte (convolve mode (now (weights .entry))) (now (src .entry)) start len stride j) ⌝ }
 {
     let mut x = 0;
     while x < len {
         let m = picture::least(most, len - x);
-        block_sums::convolve_block(line, acc, src, start, dst, len, stride, x, m, weights, mode);
+        block_sums::convolve_block(line, src, start, dst, len, stride, x, m, weights, mode);
         x += m;
     }
 }
@@ -56,7 +52,6 @@ fn convolve_line(
 // Each of `lines` lines, in blocks of at most `most` elements, into its part of dst.
 fn each_line(
     line: &mut [f32],
-    acc: &mut [f32],
     src: &[u8],
     dst: &mut [u8],
     lines: usize,
@@ -66,7 +61,7 @@ fn each_line(
     weights: &[f32],
     mode: EdgeMode,
 )
-    requires { ⌜ ConvolveLines (now src) (now dst) (now weights) lines len stride ⌝ ∗ ⌜ BlockBuffers (now line) (now acc) stride most ⌝ }
+    requires { ⌜ ConvolveLines (now src) (now dst) (now weights) lines len stride ⌝ ∗ ⌜ BlockRoom (now line) stride most ⌝ }
     ensures { λ _. ⌜ now (dst .exit) ≡ passed (convolve mode (now (weights .entry))) (now (src .entry)) lines len len stride ⌝ }
 {
     let mut y = 0;
@@ -75,7 +70,6 @@ fn each_line(
         let o = y * size;
         convolve_line(
             line,
-            acc,
             src,
             o,
             &mut dst[o..o + size],
@@ -89,8 +83,8 @@ fn each_line(
     }
 }
 
-// Each of `lines` lines of at most SHORT elements that are taken whole: one block each, in the small buffers. It is a loop of its own: with one
-// loop that either pair of buffers is lent to, which the compiler keeps as a call, a picture 16 pixels wide took 9 % longer.
+// Each of `lines` lines of at most SHORT elements that are taken whole: one block each, in the small buffer. It is a loop of its own: with one
+// loop that either buffer is lent to, which the compiler keeps as a call, a picture 16 pixels wide took 9 % longer.
 fn convolve_short(
     src: &[u8],
     dst: &mut [u8],
@@ -104,14 +98,12 @@ fn convolve_short(
     ensures { λ _. ⌜ now (dst .exit) ≡ passed (convolve mode (now (weights .entry))) (now (src .entry)) lines len len stride ⌝ }
 {
     let mut line = [0.0f32; SHORT_LINE];
-    let mut acc = [0.0f32; SHORT_SUMS];
     let mut y = 0;
     while y < lines {
         let size = len * stride;
         let start = y * size;
         block_sums::convolve_whole(
             &mut line,
-            &mut acc,
             src,
             start,
             &mut dst[start..start + size],
@@ -139,21 +131,9 @@ fn convolve_long(
     requires { ⌜ ConvolveLines (now src) (now dst) (now weights) lines len stride ⌝ }
     ensures { λ _. ⌜ now (dst .exit) ≡ passed (convolve mode (now (weights .entry))) (now (src .entry)) lines len len stride ⌝ }
 {
-    let most = SUMS / picture::least(stride, block_sums::WHOLE);
+    let most = BLOCK / picture::least(stride, block_sums::WHOLE);
     let mut line = [0.0f32; LINE];
-    let mut acc = [0.0f32; SUMS];
-    each_line(
-        &mut line,
-        &mut acc,
-        src,
-        dst,
-        lines,
-        len,
-        stride,
-        most,
-        weights,
-        mode,
-    );
+    each_line(&mut line, src, dst, lines, len, stride, most, weights, mode);
 }
 
 // Each of `lines` lines of len elements of stride bytes, convolved. The rows of a picture of pixels are h lines of w

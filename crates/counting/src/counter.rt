@@ -1,26 +1,12 @@
 // How many pixels fail the check: one pass that only reads, a block of words at a time.
 use crate::words::one_exceeding;
-use pixels::pixel_at;
+use crate::words::pack_pixels;
 ghost use mathlib.Core.Path.{_≡_};
-ghost use Prim.Native.Nat.{_+_, _*_, _≤_, _<_};
+ghost use Prim.Native.Nat.{_+_, _*_, _%_, _≤_, _<_};
 ghost use lib.ListN.{length, getD};
-ghost use Rattle.picture.specs.Build.{build};
-ghost use Rattle.pixels.specs.Pixels.{pixelAt, packed};
 ghost use Rattle.pixels.specs.Channels.{exceeds, exceedsAt};
 ghost use Rattle.counting.specs.Counts.{howMany};
 ghost use Rattle.counting.specs.Words.{unpacked};
-
-// Packs the pixels from `from` on, one into each word.
-fn pack_pixels(words: &mut [u32], picture: &[u8], from: usize)
-    requires { ⌜ 4 * (from + length (now words)) ≤ length (now picture) ⌝ }
-    ensures { λ _. ⌜ now (words .exit) ≡ build (length (now (words .entry))) (λ k. packed (pixelAt (now (picture .entry)) (from + k))) ⌝ }
-{
-    let mut k = 0;
-    while k < words.len() {
-        words[k] = pixels::pack(pixel_at(picture, from + k));
-        k += 1;
-    }
-}
 
 // How many of the words hold a pixel that fails.
 fn count_words(words: &[u32]) -> u32
@@ -45,26 +31,36 @@ fn count_block(words: &mut [u32], picture: &[u8], from: usize) -> u32
     count_words(words)
 }
 
-// How many of the first n pixels fail, by blocks of at most as many as there are words.
+// How many of the first n pixels fail, by blocks of as many as there are words. That number is the same at every call, so that a block's
+// words are never stored: the compiler keeps them in registers.
 fn count_blocks(words: &mut [u32], picture: &[u8], n: usize) -> usize
-    requires { ⌜ 4 * n ≤ length (now picture) ⌝ ∗ ⌜ 0 < length (now words) ⌝ ∗ ⌜ length (now words) < 4294967296 ⌝ }
+    requires { ⌜ 4 * n ≤ length (now picture) ⌝ ∗ ⌜ n % 32 ≡ 0 ⌝ ∗ ⌜ length (now words) ≡ 32 ⌝ }
     ensures { λ r. ⌜ r ≡ howMany (exceedsAt (now (picture .entry))) n ⌝ }
 {
     let mut count = 0;
     let mut i = 0;
     while i < n {
-        let m = picture::least(words.len(), n - i);
-        count += count_block(&mut words[..m], picture, i) as usize;
-        i += m;
+        count += count_block(words, picture, i) as usize;
+        i += 32;
     }
     count
 }
 
-// How many of the first n pixels fail.
+// How many of the n pixels from `from` on fail, fewer than a block.
+fn count_rest(words: &mut [u32], picture: &[u8], from: usize, n: usize) -> usize
+    requires { ⌜ 4 * (from + n) ≤ length (now picture) ⌝ ∗ ⌜ n < 32 ⌝ ∗ ⌜ length (now words) ≡ 32 ⌝ }
+    ensures { λ r. ⌜ r ≡ howMany (λ k. exceedsAt (now (picture .entry)) (from + k)) n ⌝ }
+{
+    count_block(&mut words[..n], picture, from) as usize
+}
+
+// How many of the first n pixels fail. The rest has words of its own: those of whole blocks are then read at places that the compiler knows.
 pub fn count_exceeding(picture: &[u8], n: usize) -> usize
     requires { ⌜ 4 * n ≤ length (now picture) ⌝ }
     ensures { λ r. ⌜ r ≡ howMany (exceedsAt (now (picture .entry))) n ⌝ }
 {
-    let mut words = [0u32; 256];
-    count_blocks(&mut words, picture, n)
+    let mut words = [0u32; 32];
+    let mut last = [0u32; 32];
+    let whole = n / 32 * 32;
+    count_blocks(&mut words, picture, whole) + count_rest(&mut last, picture, whole, n - whole)
 }

@@ -1,9 +1,15 @@
 // Pixels in one word each.
 use picture::Pixel;
+use pixels::pixel_at;
+use pixels::set_pixel;
 ghost use mathlib.Core.Path.{_≡_};
 ghost use mathlib.Core.Bool.{cond};
+ghost use Prim.Native.Nat.{_+_, _*_, _/_, _%_, _≤_};
+ghost use lib.ListN.{length, getD};
+ghost use Rattle.picture.specs.Build.{build};
+ghost use Rattle.pixels.specs.Pixels.{pixelAt, packed};
 ghost use Rattle.pixels.specs.Channels.{exceeds};
-ghost use Rattle.counting.specs.Words.{unpacked};
+ghost use Rattle.counting.specs.Words.{unpacked, byteIn};
 
 // A word as a place.
 pub fn place(word: u32) -> usize
@@ -21,6 +27,30 @@ pub fn unpack(word: u32) -> Pixel
         g: (word / 256 % 256) as u8,
         b: (word / 65536 % 256) as u8,
         a: (word / 16777216 % 256) as u8,
+    }
+}
+
+// Packs the pixels from `from` on, one into each word.
+pub fn pack_pixels(words: &mut [u32], picture: &[u8], from: usize)
+    requires { ⌜ 4 * (from + length (now words)) ≤ length (now picture) ⌝ }
+    ensures { λ _. ⌜ now (words .exit) ≡ build (length (now (words .entry))) (λ k. packed (pixelAt (now (picture .entry)) (from + k))) ⌝ }
+{
+    let mut k = 0;
+    while k < words.len() {
+        words[k] = pixels::pack(pixel_at(picture, from + k));
+        k += 1;
+    }
+}
+
+// Writes the pixels in words one after the other.
+pub fn unpack_pixels(bytes: &mut [u8], words: &[u32])
+    requires { ⌜ length (now bytes) ≡ 4 * length (now words) ⌝ }
+    ensures { λ _. ⌜ now (bytes .exit) ≡ build (length (now (bytes .entry))) (λ j. byteIn (getD (now (words .entry)) (j / 4) 0) (j % 4)) ⌝ }
+{
+    let mut k = 0;
+    while k < words.len() {
+        set_pixel(bytes, k, unpack(words[k]));
+        k += 1;
     }
 }
 

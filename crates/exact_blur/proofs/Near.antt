@@ -10,7 +10,6 @@ use Rattle.picture.specs.Planes.{Line, Plane, chan}
 use Rattle.picture.specs.declared.EdgeMode.{EdgeMode}
 use Rattle.picture.proofs.Planes.{chan-painted}
 use Rattle.edges.specs.Edges.{sample}
-use Rattle.edges.proofs.Samples.{sample-relates}
 use Rattle.binary32.specs.Ranges.{outsideUnit}
 use Rattle.binary32.specs.Grid.{onGrid, numerators, numerator, sum}
 use Rattle.binary32.specs.Taps.{sumTo}
@@ -18,6 +17,7 @@ use Rattle.binary32.proofs.Kernels.{weight, grid-weights-of, sum-of}
 use Rattle.binary32.proofs.Taps.{channel-exact}
 use Rattle.passes.specs.Passes.{convolve}
 use Rattle.passes.proofs.Relates.{Moves, blur-moves}
+use Rattle.passes.proofs.Taps.{sample-most}
 use Rattle.gaussian_blur.specs.Blurred.{blurredPlane, blurred}
 use Rattle.grid_sums.specs.Sums.{gridSum}
 use Rattle.exact_blur.specs.Exact.{exactConvolve, exactBlur, scaleOf}
@@ -59,7 +59,7 @@ module _ (mode : EdgeMode) (weights : List Float) (kernel : GridKernel weights) 
   unfolding convolve gridSum
   convolve-on-grid s p bytes x =
       channel-exact (λ j. sample mode s p (x + j) (length weights / 2)) (weight weights) (length weights)
-      (λ j _. sample-relates mode s p p (x + j) (length weights / 2) (λ a _. a ≤ 255) (omega arith) bytes)
+      (λ j _. sample-most mode p 255 bytes s (x + j) (length weights / 2))
       (grid-weights-of weights (kernel .on-grid)) (omega (arith, sum-of numerator weights, kernel .fits))
       ∙ simp (length-map, numerator-at weights)
 

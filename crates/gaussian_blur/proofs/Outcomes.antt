@@ -1,14 +1,16 @@
 -- Laws of what a call leaves: the picture by its strength, the scratch cleared, and what no refusal says.
-use mathlib.Core.Path.{_≡_, _∙_}
+use mathlib.Core.Path.{_≡_, _∙_, ap, ap₂}
 use mathlib.Core.Bool.{true, false}
 use mathlib.Core.List.{List, _++_}
 use Prim.Native.Nat.{ℕ, _≤_}
+use native.Mathlib.Omega.{arith}
 use lib.Dec.{lit<}
 use lib.Ieee.{Float}
 use lib.ListN.{length, take, drop}
 use lib.Seq.{drop-at, length-take-le}
 use borrow.Author.Tests.{ltb-false}
 use Rattle.picture.specs.Planes.{cleared}
+use Rattle.picture.specs.Answer.{lent}
 use Rattle.picture.specs.Refusal.{firstOf, wrongSides, tooShort}
 use Rattle.picture.specs.declared.EdgeMode.{EdgeMode}
 use Rattle.picture.proofs.Sizes.{whole}
@@ -30,6 +32,11 @@ module _ (mode : EdgeMode) (weights : List Float) (n : ℕ) (strength : Float) (
 -- the first k bytes were lent and came back, and were cleared: nothing after them changed
 pub cleared-part : (k : ℕ) (work e : List ℕ) → k ≤ length work → length e ≡ length (take k work) → cleared k (e ++ drop k work) ≡ cleared k work
 cleared-part k work e le len = rw (cleared-is, cleared-is, drop-at e (drop k work) k (len ∙ length-take-le k work le))
+
+-- so an accepted call, which lends as many bytes as the picture has, leaves the picture and the rest of the scratch
+pub lent-cleared : (work e : List ℕ) {k m : ℕ} {p p′ z : List ℕ} → k ≡ m → m ≤ length work → length e ≡ length (take k work) → p ≡ p′ → z ≡ cleared k (e ++ drop k work) → lent p z ≡ lent p′ (cleared m work)
+lent-cleared work e is room len done clear =
+    ap₂ lent done (clear ∙ cleared-part _ work e (omega arith) len ∙ ap (λ (n : ℕ). cleared n work) is)
 
 -- no refusal: the sizes and the kernel are as the work needs them
 pub accepted : (p : List ℕ) (w h : ℕ) (s : List ℕ) (weights : List Float) (n : ℕ) (strength : Float) (edge : ℕ) →

@@ -57,33 +57,44 @@ module _ (f : Form) (C : Pass) (lc : Local C) (mode : EdgeMode) (s : LevelSize) 
       n w h _ _ zw zh (λ a b la lb. read-write f w h _ c a b lc′ la lb) u v)
       x y))
 
-  -- a part was halved, blurred where it lay, and doubled
-  pub step : (n : ℕ) (t : LevelSize) (k : ℕ) (p₁ e p₂ : List ℕ) → (n ≡ 0 → ⊥) → t ≡ halfLevel s → k ≡ formBytes f (t .w) (t .h) → k ≤ length p₁ → length e ≡ length (take k p₁) →
-      take (formBytes f (half (s .w)) (half (s .h))) p₁ ≡ formPass f (halve mode) s (halfLevel s) p →
-      e ≡ blurredBy f C mode (n - 1) (t .w) (t .h) (take k p₁) →
-      p₂ ≡ formPass f (double mode) (halfLevel s) s (take (formBytes f (half (s .w)) (half (s .h))) (e ++ drop k p₁)) →
-      p₂ ≡ blurredBy f C mode n (s .w) (s .h) p
-  step n t k p₁ e p₂ some et ek le len halved self doubled =
-      let k′ : k ≡ formBytes f (half (s .w)) (half (s .h)) = ek ∙ ap (λ (t : LevelSize). formBytes f (t .w) (t .h)) et in
-      let back : take k (e ++ drop k p₁) ≡ e = take-at e (drop k p₁) k (len ∙ length-take-le k p₁ le) in
-      let halved′ : take k p₁ ≡ formPass f (halve mode) s (halfLevel s) p = rw k′ halved in
-      let doubled′ : p₂ ≡ formPass f (double mode) (halfLevel s) s (take k (e ++ drop k p₁)) = doubled ∙ ap (λ (m : ℕ). formPass f (double mode) (halfLevel s) s (take m (e ++ drop k p₁))) (sym k′) in
-      doubled′ ∙ rw (back, self, et, halved′) (blurred-more n some)
+-- the level below has sides for which there is room too
+pub below-sized : (s : LevelSize) → Sized s → {t : LevelSize} → t ≡ halfLevel s → Sized t
+below-sized s z e = rw e (half-sized s z)
 
--- the first k bytes of a level's buffer, which the level below takes
-module _ (f : Form) (s : LevelSize) (z : Sized s) {t : LevelSize} (et : t ≡ halfLevel s) where
-  pub part-sized : Sized t
-  part-sized = rw et (half-sized s z)
+-- a buffer of the level s, whose first k bytes the level t below takes
+pub record Part (f : Form) (s t : LevelSize) (k : ℕ) (l : List ℕ) : Type 0 where
+  pub sized : Sized s
+  pub below : t ≡ halfLevel s
+  pub bytes : k ≡ formBytes f (t .w) (t .h)
+  pub all : length l ≡ formBytes f (s .w) (s .h)
 
-  module _ {k : ℕ} (ek : k ≡ formBytes f (t .w) (t .h)) (l : List ℕ) (e : length l ≡ formBytes f (s .w) (s .h)) where
-    pub part-fits : k ≤ length l
-    part-fits =
-        let smaller = form-grows f {v = half (s .w)} {u = half (s .h)} {w = s .w} {h = s .h} (omega (arith, z .w-low)) (omega (arith, z .h-low)) in
-        omega (arith, smaller, ek ∙ ap (λ (t : LevelSize). formBytes f (t .w) (t .h)) et)
+module _ {f : Form} {s t : LevelSize} {k : ℕ} {l : List ℕ} (p : Part f s t k l) where
+  halved-bytes : k ≡ formBytes f (half (s .w)) (half (s .h))
+  halved-bytes = p .bytes ∙ ap (λ (t : LevelSize). formBytes f (t .w) (t .h)) (p .below)
 
-    pub part-long : length (take k l) ≡ formBytes f (t .w) (t .h)
-    part-long = length-take-le k l part-fits ∙ ek
+  pub part-fits : k ≤ length l
+  part-fits =
+      let smaller = form-grows f {v = half (s .w)} {u = half (s .h)} {w = s .w} {h = s .h} (omega (arith, p .sized .w-low)) (omega (arith, p .sized .h-low)) in
+      omega (arith, smaller, halved-bytes, p .all)
 
-    -- what comes back for them is as long, and so is the whole
-    pub part-back : (part : List ℕ) → length part ≡ length (take k l) → length (part ++ drop k l) ≡ formBytes f (s .w) (s .h)
-    part-back part q = length-front l part k q ∙ e
+  pub part-counts : k ≡ length (take k l)
+  part-counts = sym (length-take-le k l part-fits)
+
+  pub part-long : length (take k l) ≡ formBytes f (t .w) (t .h)
+  part-long = sym part-counts ∙ p .bytes
+
+  -- what comes back for the part is as long, and so is the whole
+  pub part-back : (e : List ℕ) → length e ≡ length (take k l) → length (e ++ drop k l) ≡ formBytes f (s .w) (s .h)
+  part-back e q = length-front l e k q ∙ p .all
+
+  -- the level was halved, its part blurred where it lay, and doubled
+  pub step : (C : Pass) → Local C → (mode : EdgeMode) (n : ℕ) (old : List ℕ) {e new : List ℕ} → (n ≡ 0 → ⊥) → length e ≡ length (take k l) →
+      take (formBytes f (half (s .w)) (half (s .h))) l ≡ formPass f (halve mode) s (halfLevel s) old →
+      e ≡ blurredBy f C mode (n - 1) (t .w) (t .h) (take k l) →
+      new ≡ formPass f (double mode) (halfLevel s) s (take (formBytes f (half (s .w)) (half (s .h))) (e ++ drop k l)) →
+      new ≡ blurredBy f C mode n (s .w) (s .h) old
+  step C lc mode n old {e} {new} some len halved self doubled =
+      let back : take k (e ++ drop k l) ≡ e = take-at e (drop k l) k (len ∙ sym part-counts) in
+      let halved′ : take k l ≡ formPass f (halve mode) s (halfLevel s) old = rw halved-bytes halved in
+      let doubled′ : new ≡ formPass f (double mode) (halfLevel s) s (take k (e ++ drop k l)) = doubled ∙ ap (λ (m : ℕ). formPass f (double mode) (halfLevel s) s (take m (e ++ drop k l))) (sym halved-bytes) in
+      doubled′ ∙ rw (back, self, p .below, halved′) (blurred-more f C lc mode s (p .sized) old n some)

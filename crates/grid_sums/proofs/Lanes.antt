@@ -10,9 +10,10 @@ use Rattle.picture.specs.declared.EdgeMode.{EdgeMode}
 use Rattle.picture.specs.Spans.{Run}
 use Rattle.edges.specs.declared.At.the-variants.{Inside, Outside}
 use Rattle.edges.specs.Edges.{place, sample}
-use Rattle.edges.proofs.Samples.{sample-near, sample-relates}
+use Rattle.edges.proofs.Samples.{sample-near}
 use Rattle.binary32.specs.Taps.{sumTo}
 use Rattle.passes.specs.Written.{lane}
+use Rattle.passes.proofs.Taps.{sample-most}
 use Rattle.grid_sums.specs.Sums.{gridSum}
 use Rattle.grid_sums.specs.Room.{mostSum, Numerators}
 use Rattle.grid_sums.proofs.Sums.{sum-fits}
@@ -86,8 +87,7 @@ module _ (mode : EdgeMode) (ms src : List ℕ) (start len stride x from i : ℕ)
   part-all = refl
 
   pub part-fits : Numerators ms → ((b : ℕ) → getD src b 0 ≤ 255) → (n : ℕ) → n ≤ length ms → partSum n ≤ mostSum
-  part-fits k b =
-      sum-fits k _ (λ j. sample-relates mode len (lane src start stride ((from + i) % stride)) (lane src start stride ((from + i) % stride)) _ _ (λ v _. v ≤ 255) (omega arith) (λ e. b _))
+  part-fits k b = sum-fits k _ (λ j. sample-most mode (lane src start stride ((from + i) % stride)) 255 (λ e. b _) len _ _)
 
   pub grid-fits : Numerators ms → ((b : ℕ) → getD src b 0 ≤ 255) → gridSum mode ms len (lane src start stride ((from + i) % stride)) (x + (from + i) / stride) ≤ mostSum
   grid-fits k b = omega (arith, part-all, part-fits k b (length ms) (omega arith))

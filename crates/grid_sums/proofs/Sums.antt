@@ -1,6 +1,5 @@
 -- Laws of numerators and of bytes summed in them: the sum from an index on, and that sums of bytes fit.
 use mathlib.Core.Path.{_≡_}
-use mathlib.Core.Bool.{false}
 use mathlib.Core.List.{List}
 use Prim.Native.Nat.{ℕ, zero, suc, _+_, _*_, _≤_, _<_}
 use native.Mathlib.Nat.{mul-le-mul, mul-le-mul-right}
@@ -9,17 +8,10 @@ use native.Mathlib.Omega.{arith}
 use lib.ListN.{length, getD, drop}
 use lib.Seq.{drop-cons}
 use borrow.Author.Tests.{ltb-false}
-use Rattle.picture.specs.Refusal.{maxTaps, wrongTaps}
-use Rattle.picture.proofs.Conditions.{right-taps}
 use Rattle.binary32.specs.Grid.{sum}
 use Rattle.binary32.specs.Taps.{sumTo}
 use Rattle.grid_sums.specs.Sums.{heavy}
 use Rattle.grid_sums.specs.Room.{mostSum, Numerators}
-
--- there are some taps, and far fewer than arithmetic has room for
-pub few-taps : (taps : ℕ) → wrongTaps taps ≡ false → (0 < taps) × (taps ≤ 1024)
-unfolding maxTaps
-few-taps taps e = let c = right-taps taps .0 e in (c .low, omega (arith, c .high))
 
 -- a byte in a weight of 16 bits
 pub product-fits : {b k : ℕ} → b < 256 → k < 65536 → b * k ≤ mostSum

@@ -7,8 +7,12 @@ ghost use lib.Ieee.{nan};
 ghost use lib.ListN.{length, getD};
 ghost use Rattle.binary32.specs.Ranges.{zero32, nonneg};
 ghost use Rattle.binary32.specs.Round.{toByte};
-ghost use Rattle.picture.specs.Spans.{Run};
-ghost use Rattle.lanes.specs.Lanes.{widened, addTap, laneSum, Reaches};
+ghost use Rattle.picture.specs.Spans.{Span, Run};
+ghost use Rattle.lanes.specs.Lanes.{widened, addTap, laneSum, laneByte, Reaches, Weighable, groupRoom, Grouped};
+
+// The most lanes whose sums are held in registers: eight of four lanes each, or four of eight, so that as many sums are under way as it takes
+// to hide how long one addition takes.
+const GROUP: usize = 32;
 
 // The n bytes of src from s on, as floats into line from a on.
 pub fn widen(line: &mut [f32], a: usize, n: usize, src: &[u8], s: usize)
@@ -34,18 +38,6 @@ pub fn clear(line: &mut [f32], a: usize, n: usize)
     }
 }
 
-// The first tap of the first n sums of acc. Each starts from 0.0, so that a product of minus zero makes no sum of minus zero.
-fn first_tap(acc: &mut [f32], n: usize, line: &[f32], a: usize, k: f32)
-    requires { ⌜ n ≤ length (now acc) ⌝ ∗ ⌜ a + n ≤ length (now line) ⌝ }
-    ensures { λ _. ⌜ Run nan (now (acc .entry)) (now (acc .exit)) 0 n (λ i. addTap zero32 (getD (now (line .entry)) (a + i) nan) k) ⌝ }
-{
-    let mut i = 0;
-    while i < n {
-        acc[i] = 0.0 + line[a + i] * k;
-        i += 1;
-    }
-}
-
 // One tap more for the first n sums of acc.
 fn add_tap(acc: &mut [f32], n: usize, line: &[f32], a: usize, k: f32)
     requires { ⌜ n ≤ length (now acc) ⌝ ∗ ⌜ a + n ≤ length (now line) ⌝ }
@@ -58,32 +50,17 @@ fn add_tap(acc: &mut [f32], n: usize, line: &[f32], a: usize, k: f32)
     }
 }
 
-// Two taps more for the first n sums of acc, one after the other, so that a sum is loaded and stored once for both.
-fn add_two(acc: &mut [f32], n: usize, line: &[f32], a: usize, k: f32, b: usize, l: f32)
-    requires { ⌜ n ≤ length (now acc) ⌝ ∗ ⌜ a + n ≤ length (now line) ⌝ ∗ ⌜ b + n ≤ length (now line) ⌝ }
-    ensures { λ _. ⌜ Run nan (now (acc .entry)) (now (acc .exit)) 0 n (λ i. addTap (addTap (getD (now (acc .entry)) i nan) (getD (now (line .entry)) (a + i) nan) k) (getD (now (line .entry)) (b + i) nan) l) ⌝ }
-{
-    let mut i = 0;
-    while i < n {
-        acc[i] = acc[i] + line[a + i] * k + line[b + i] * l;
-        i += 1;
-    }
-}
-
-// The first n sums of acc: the values of line from a on, under all weights in order. Under weight j stands the value j steps on.
+// The first n sums of acc: the values of line from a on, under all weights in order. Under weight j stands the value j steps on. Each starts
+// from 0.0, so that a product of minus zero makes no sum of minus zero.
 fn sums(acc: &mut [f32], n: usize, line: &[f32], a: usize, step: usize, weights: &[f32])
     requires { ⌜ n ≤ length (now acc) ⌝ ∗ ⌜ Reaches (now line) (now weights) a step n ⌝ }
     ensures { λ _. ⌜ ((i : ℕ) → i < n → getD (now (acc .exit)) i nan ≡ laneSum (now (line .entry)) a step (now (weights .entry)) (length (now (weights .entry))) i) ⌝ }
 {
-    first_tap(acc, n, line, a, weights[0]);
-    let mut j = 1;
-    while j + 1 < weights.len() {
-        let b = a + j * step;
-        add_two(acc, n, line, b, weights[j], b + step, weights[j + 1]);
-        j += 2;
-    }
-    if j < weights.len() {
+    clear(acc, 0, n);
+    let mut j = 0;
+    while j < weights.len() {
         add_tap(acc, n, line, a + j * step, weights[j]);
+        j += 1;
     }
 }
 
@@ -100,7 +77,7 @@ fn round_lanes(dst: &mut [u8], o: usize, n: usize, acc: &[f32])
 }
 
 // n lanes of line from a on, summed under all weights, as bytes into dst from o on. acc is room for the sums.
-pub fn weigh(
+fn weigh_group(
     dst: &mut [u8],
     o: usize,
     n: usize,
@@ -110,10 +87,54 @@ pub fn weigh(
     step: usize,
     weights: &[f32],
 )
-    requires { ⌜ o + n ≤ length (now dst) ⌝ ∗ ⌜ n ≤ length (now acc) ⌝ ∗ ⌜ Reaches (now line) (now weights) a step n ⌝
-        ∗ ⌜ ((i : ℕ) → i < n → T (nonneg (laneSum (now line) a step (now weights) (length (now weights)) i))) ⌝ }
-    ensures { λ _. ⌜ Run 0 (now (dst .entry)) (now (dst .exit)) o n (λ i. toByte (laneSum (now (line .entry)) a step (now (weights .entry)) (length (now (weights .entry))) i)) ⌝ }
+    requires { ⌜ o + n ≤ length (now dst) ⌝ ∗ ⌜ n ≤ length (now acc) ⌝ ∗ ⌜ Weighable (now line) (now weights) a step n ⌝ }
+    ensures { λ _. ⌜ Run 0 (now (dst .entry)) (now (dst .exit)) o n (laneByte (now (line .entry)) a step (now (weights .entry))) ⌝ }
 {
     sums(acc, n, line, a, step, weights);
     round_lanes(dst, o, n, acc);
+}
+
+// Of n lanes those from `first` on, in groups of `size` while there are as many, into dst from o on: answers the first lane that is left. Where
+// it is called with a number for `size`, the compiler keeps a group's sums in registers from the first tap to the rounding.
+fn weigh_groups(
+    dst: &mut [u8],
+    o: usize,
+    first: usize,
+    n: usize,
+    size: usize,
+    line: &[f32],
+    a: usize,
+    step: usize,
+    weights: &[f32],
+) -> usize
+    requires { ⌜ o + n ≤ length (now dst) ⌝ ∗ ⌜ first ≤ n ⌝ ∗ ⌜ (0 < size) × (size ≤ groupRoom) ⌝ ∗ ⌜ Weighable (now line) (now weights) a step n ⌝ }
+    ensures { λ r. ⌜ Grouped first n size r × Span 0 (now (dst .entry)) (now (dst .exit)) o first r (laneByte (now (line .entry)) a step (now (weights .entry))) ⌝ }
+{
+    let mut acc = [0.0f32; GROUP];
+    let mut i = first;
+    while size <= n - i {
+        weigh_group(dst, o + i, size, &mut acc, line, a + i, step, weights);
+        i += size;
+    }
+    i
+}
+
+// n lanes of line from a on, summed under all weights, as bytes into dst from o on: in groups as large as registers hold, and what is left in
+// smaller ones, down to single lanes.
+pub fn weigh(
+    dst: &mut [u8],
+    o: usize,
+    n: usize,
+    line: &[f32],
+    a: usize,
+    step: usize,
+    weights: &[f32],
+)
+    requires { ⌜ o + n ≤ length (now dst) ⌝ ∗ ⌜ Weighable (now line) (now weights) a step n ⌝ }
+    ensures { λ _. ⌜ Run 0 (now (dst .entry)) (now (dst .exit)) o n (laneByte (now (line .entry)) a step (now (weights .entry))) ⌝ }
+{
+    let many = weigh_groups(dst, o, 0, n, GROUP, line, a, step, weights);
+    let some = weigh_groups(dst, o, many, n, 8, line, a, step, weights);
+    let few = weigh_groups(dst, o, some, n, 4, line, a, step, weights);
+    weigh_groups(dst, o, few, n, 1, line, a, step, weights);
 }

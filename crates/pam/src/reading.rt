@@ -1,5 +1,5 @@
 // A PAM file read into a picture.
-use pam_convert::inward::read_body;
+use pam_convert::bodies::read_body;
 use picture::FullSize;
 ghost use mathlib.Core.Path.{_≡_};
 ghost use Rattle.pam.specs.Import.{importNumber, importAnswer, importOutcome};

@@ -3,7 +3,7 @@ use counting::counter::count_exceeding;
 use grading::premultiplied::Checked;
 use grading::premultiplied::PictureRefusal;
 use grading::premultiplied::Place;
-use pam_convert::outward::write_body;
+use pam_convert::bodies::write_body;
 ghost use mathlib.Core.Path.{_≡_};
 ghost use mathlib.Core.Bool.{true};
 ghost use Rattle.grading.specs.Premultiplied.{none, finding, checked};

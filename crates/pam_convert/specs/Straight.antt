@@ -1,13 +1,14 @@
 -- Straight channels in the testers' files, premultiplied ones in a picture.
-use mathlib.Core.Bool.{cond}
+use mathlib.Core.Bool.{Bool, true, false, cond}
 use mathlib.Core.List.{List}
-use Prim.Native.Nat.{ℕ, _+_, _-_, _*_, _/_, _%_}
+use Prim.Native.Nat.{ℕ, _+_, _*_, _/_, _%_}
 use lib.Dec.{eqb}
 use lib.ListN.{getD}
-use Rattle.picture.specs.Build.{build}
 use Rattle.picture.specs.Planes.{chan, painted}
 use Rattle.picture.specs.declared.Pixel.{Pixel}
+use Rattle.pixels.specs.Pixels.{packed}
 use Rattle.pixels.specs.Channels.{premultiply}
+use Rattle.counting.specs.Words.{unpacked}
 
 -- outward: c becomes floor((255·c + floor(a/2)) / a), or 0 when a is 0
 unfoldable pub outward : ℕ → ℕ → ℕ
@@ -32,14 +33,6 @@ imported w h body = recoloured premultiply w h body
 abbrev pub exported : ℕ → ℕ → List ℕ → List ℕ
 exported w h picture = recoloured outward w h picture
 
--- 2^24 / a upward, with which a product and a shift divide by an alpha; 0 for alpha 0
-unfoldable pub reciprocal : ℕ → ℕ
-reciprocal a = cond (eqb a 0) 0 ((16777216 + (a - 1)) / a)
-
--- one for each alpha
-unfoldable pub reciprocals : List ℕ
-reciprocals = build 256 reciprocal
-
 -- byte j of a picture whose channels are made anew, of the bytes alone
 abbrev pub anewAt : (ℕ → ℕ → ℕ) → List ℕ → ℕ → ℕ
 anewAt f bytes j = recolouredChannel f (j % 4) (getD bytes (4 * (j / 4) + j % 4) 0) (getD bytes (4 * (j / 4) + 3) 0)
@@ -47,3 +40,22 @@ anewAt f bytes j = recolouredChannel f (j % 4) (getD bytes (4 * (j / 4) + j % 4)
 -- what byte j is multiplied by inward: its pixel's alpha, and 255 where it is the alpha
 abbrev pub factorAt : List ℕ → ℕ → ℕ
 factorAt bytes j = cond (eqb (j % 4) 3) 255 (getD bytes (4 * (j / 4) + 3) 0)
+
+-- what a block makes of a pixel: outward its channels divided, inward what they are multiplied by
+abbrev pub newPixel : Bool → Pixel → Pixel
+newPixel true p = recolouredPixel outward p
+newPixel false p = record { r = p .a; g = p .a; b = p .a; a = 255 }
+
+-- of the pixel in a word
+unfoldable pub newWord : Bool → ℕ → ℕ
+newWord out n = packed (newPixel out (unpacked n))
+
+-- byte j of the block
+abbrev pub newAt : Bool → List ℕ → ℕ → ℕ
+newAt true bytes j = anewAt outward bytes j
+newAt false bytes j = factorAt bytes j
+
+-- the rule outward, or inward
+abbrev pub rule : Bool → ℕ → ℕ → ℕ
+rule true = outward
+rule false = premultiply

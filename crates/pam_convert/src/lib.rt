@@ -1,3 +1,4 @@
 // Channels of the testers' image files: inward into a picture, and outward from one.
-pub mod inward;
-pub mod outward;
+mod blocks;
+pub mod bodies;
+mod words;

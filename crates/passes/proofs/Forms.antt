@@ -135,6 +135,10 @@ pixels-formed = record { planes-low = omega arith; planes-high = omega arith; la
 pub pixel-bytes : (w h : ℕ) → formBytes ofPixels w h ≡ bytesOf w h
 pixel-bytes w h = omega (arith, mul-assoc h w 4, mul-comm h w)
 
+-- as many bytes as the pixels have
+pub as-pixels : (w h : ℕ) {n : ℕ} → n ≡ bytesOf w h → n ≡ formBytes ofPixels w h
+as-pixels w h e = e ∙ sym (pixel-bytes w h)
+
 pub pixel-read : (bytes : List ℕ) (w h c x y : ℕ) → c < 4 → readAs ofPixels bytes w h c x y ≡ chan bytes w c x y
 unfolding readAs chan
 pixel-read bytes w h c x y lc =

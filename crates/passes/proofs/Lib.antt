@@ -2,6 +2,7 @@
 pub mod Written
 pub mod Planes
 pub mod Local
+pub mod Taps
 pub mod OneWide
 pub mod Relates
 pub mod Forms

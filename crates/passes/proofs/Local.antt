@@ -18,20 +18,20 @@ Local f = (s : ℕ) (p q : Line) → 0 < s → ((i : ℕ) → i < s → p i ≡ 
 
 module _ (mode : EdgeMode) where
   -- their samples are the same
-  samples : (s : ℕ) (p q : Line) → 0 < s → ((i : ℕ) → i < s → p i ≡ q i) → sample mode s p ≡ sample mode s q
-  samples s p q z h = fun-ext (λ c. fun-ext (λ d. sample-local mode s p q c d z h))
+  pub same-samples : (s : ℕ) (p q : Line) → 0 < s → ((i : ℕ) → i < s → p i ≡ q i) → sample mode s p ≡ sample mode s q
+  same-samples s p q z h = fun-ext (λ c. fun-ext (λ d. sample-local mode s p q c d z h))
 
   pub halve-local : Local (halve mode)
   unfolding halve
-  halve-local s p q z h x = rw (samples s p q z h)
+  halve-local s p q z h x = rw (same-samples s p q z h)
 
   pub double-local : Local (double mode)
   unfolding double
-  double-local s p q z h x = rw (samples s p q z h)
+  double-local s p q z h x = rw (same-samples s p q z h)
 
   pub convolve-local : (weights : List Float) → Local (convolve mode weights)
   unfolding convolve
-  convolve-local weights s p q z h x = rw (samples s p q z h)
+  convolve-local weights s p q z h x = rw (same-samples s p q z h)
 
 -- planes that agree below the sides
 abbrev pub Same : ℕ → ℕ → Plane → Plane → Type 0

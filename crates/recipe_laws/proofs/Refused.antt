@@ -5,23 +5,25 @@ use mathlib.Core.List.{List, [], _∷_}
 use Prim.Native.Nat.{ℕ, zero, suc, _+_, _≤_, _<_}
 use native.Mathlib.Nat.{zero-add}
 use native.Mathlib.Omega.{arith}
-use denote.Ref.{now}
 use lib.Dec.{eqb}
 use lib.Ieee.{Float}
 use lib.ListN.{length}
-use borrow.Author.Tests.{eqb-true, eqb-false}
-use Rattle.picture.specs.Answer.{LentCopy, lentCopy}
-use Rattle.picture.specs.Refusal.{firstElse, firstOf, wrongSides, wrongLength}
-use Rattle.picture.proofs.Settled.{read}
-use Rattle.drop_shadow.specs.Outcome.{eitherShort}
+use borrow.Author.Tests.{eqb-true, ne-eqb, lt-ltb}
+use Rattle.picture.specs.Answer.{LentCopy}
+use Rattle.picture.specs.Refusal.{firstElse, firstOf, zeroOrAbove, wrongSides, wrongLength, maxTaps, wrongTaps}
+use Rattle.gaussian_blur.specs.Outcome.{blurOutcome}
+use Rattle.drop_shadow.specs.Outcome.{eitherShort, shadowOutcome}
 use Rattle.recipe_checks.specs.declared.Step.{Step}
 use Rattle.recipe_checks.specs.declared.Chained.{Chained}
 use Rattle.recipe_checks.specs.Own.{unknown, ownNumber, frameChecks, found}
-use Rattle.recipe_checks.specs.Single.{singleCall}
-use Rattle.recipes.specs.Chain.{ChainLeft, chainLeft, chainOutcome, chainFound, firstBad, stepAt}
+use Rattle.recipe_checks.specs.Single.{kernelCall, singleCall}
+use Rattle.recipe_checks.proofs.Known.{own-is}
+use Rattle.recipes.specs.Chain.{ChainLeft, chainFound, firstBad, stepAt}
 use Rattle.recipes.proofs.Done.{framed-of}
-use Rattle.recipes.proofs.OneCall.{Framed, own-answered}
-use Rattle.recipe_laws.specs.Refused.{FirstRefused, FirstRefusedOnly}
+use Rattle.recipes.proofs.OneCall.{Framed, settled-number, own-answered}
+use Rattle.recipe_laws.specs.Calls.{ListCall, OfCalls}
+use Rattle.recipe_laws.specs.Refused.{ReadsKernel, Long, FirstRefused, FirstRefusedOnly}
+use Rattle.recipe_laws.proofs.Calls.{Promised, of-calls, foundOf, reading}
 
 -- ---- where the first bad recipe stands, in a list counted from i
 record FirstBad (table : List Float) (i : ℕ) (steps : List Step) (r : Chained) : Type 0 where
@@ -69,14 +71,29 @@ past-three later frame true e most above = (eqb-true frame 0 e, refl)
 past-three later frame false e most above = absurd (omega arith)
 
 -- ---- its single call alone
-module _ (table : List Float) (w h : ℕ) (step : Step) (l : LentCopy) (framed : Framed w h (length (l .picture)) (length (l .scratch)) (length (l .copy))) (within : step .taps ≤ 33) where
-  by-known : (b : Bool) → unknown (length table) step ≡ b → singleCall table w h step l .number ≡ ownNumber table step
+module _ (table : List Float) (w h : ℕ) (step : Step) (l : LentCopy) (framed : Framed w h (length (l .picture)) (length (l .scratch)) (length (l .copy))) where
+  by-known : (ReadsKernel table step → step .taps ≤ 33) → (b : Bool) → unknown (length table) step ≡ b → singleCall table w h step l .number ≡ ownNumber table step
   unfolding singleCall ownNumber firstOf firstElse
-  by-known true is = rw is
-  by-known false known = own-answered table w h step (l .picture) (l .scratch) (l .copy) framed known within
+  by-known few true is = rw is
+  by-known few false known = own-answered table w h step (l .picture) (l .scratch) (l .copy) framed known (λ other. few (record { known = known; no-shift = other }))
 
-  answers : singleCall table w h step l .number ≡ ownNumber table step
-  answers = by-known (unknown (length table) step) refl
+  answers : (ReadsKernel table step → step .taps ≤ 33) → singleCall table w h step l .number ≡ ownNumber table step
+  answers few = by-known few (unknown (length table) step) refl
+
+  -- a call with a kernel of a wrong length
+  refuses-taps : (weights : List Float) → wrongTaps (length weights) ≡ true → (b : Bool) → eqb (step .operation) 0 ≡ b → kernelCall weights w h step l .number ≡ 4
+  unfolding kernelCall blurOutcome shadowOutcome firstOf firstElse eitherShort
+  refuses-taps weights wrong true is = rw is (settled-number _ _ _ ∙ rw (framed .sides, framed .exact, framed .scratch-room, wrong))
+  refuses-taps weights wrong false is = rw is (settled-number _ _ _ ∙ rw (framed .sides, framed .exact, framed .scratch-room, framed .copy-room, wrong))
+
+-- more taps than a kernel has
+too-many : (taps : ℕ) → 33 < taps → wrongTaps taps ≡ true
+unfolding wrongTaps zeroOrAbove maxTaps
+too-many taps above = rw (ne-eqb taps 0 (λ z. omega arith), lt-ltb 33 taps above)
+
+own-four : (table : List Float) (step : Step) → ReadsKernel table step → 33 < step .taps → ownNumber table step ≡ 4
+unfolding firstOf firstElse
+own-four table step reads above = sym (own-is table step (reads .known) (rw (ne-eqb (step .operation) 1 (reads .no-shift), too-many (step .taps) above)))
 
 module _ (table : List Float) (w h : ℕ) (p s c : List ℕ) (steps : List Step) where
   abbrev fd : Chained
@@ -95,23 +112,25 @@ module _ (table : List Float) (w h : ℕ) (p s c : List ℕ) (steps : List Step)
       let was = of-list above in
       let bad : FirstBad table 0 steps fd = subst (FirstBad table 0 steps) (sym (was .1)) (first-bad table 0 steps (λ z. omega (arith, above, ap (λ (d : Chained). d .number) (was .1), z))) in
       let at-is : fd .index ≡ bad .at = bad .index-is ∙ zero-add (bad .at) in
-      let framed = framed-of w h (length p) (length s) (length c) (was .0) in
+      let own : ownNumber table (stepAt steps (fd .index)) ≡ fd .number = ap (λ (i : ℕ). ownNumber table (stepAt steps i)) at-is ∙ bad .own in
+      let framed-on : (l : LentCopy) → Long (length p) (length s) (length c) l → Framed w h (length (l .picture)) (length (l .scratch)) (length (l .copy)) =
+      λ l long. rw (long .picture-is, long .scratch-is, long .copy-is) (framed-of w h (length p) (length s) (length c) (was .0)) in
       record {
         within = rw at-is (bad .within);
         before = λ j l. bad .before j (subst (λ (i : ℕ). j < i) at-is l);
-        alone = λ few l lp ls lc.
-            answers table w h (stepAt steps (fd .index)) l (rw (lp, ls, lc) framed) few ∙ ap (λ (i : ℕ). ownNumber table (stepAt steps i)) at-is ∙ bad .own;
+        alone = λ few l long. answers table w h (stepAt steps (fd .index)) l (framed-on l long) few ∙ own;
+        overlong = λ reads above. (
+          sym own ∙ own-four table (stepAt steps (fd .index)) reads above,
+          λ weights many l long. refuses-taps table w h (stepAt steps (fd .index)) l (framed-on l long) weights (rw many (too-many (stepAt steps (fd .index) .taps) above)) (eqb (stepAt steps (fd .index) .operation) 0) refl,
+        );
       }
 
-  of-answer : (r : Chained) (buffers : LentCopy) → record { number = r .number; left = chainLeft (r .index) buffers } ≡ chainOutcome p w h s c steps table → 3 < r .number →
-      FirstRefused table w h (length p) (length s) (length c) steps r
-  unfolding chainOutcome
-  of-answer r buffers e above =
-      let was = read _ _ _ _ _ e in
-      let same : r ≡ fd = λ i. record { number = was .number i; index = ap (λ (d : ChainLeft). d .index) (was .unchanged (λ z. omega (arith, above, z))) i } in
-      subst (FirstRefused table w h (length p) (length s) (length c) steps) (sym same) (of-found (rw (sym (was .number)) above))
+of-call : (k : ListCall) → Promised k → FirstRefusedOnly k
+of-call k e above =
+    let was = reading k e in
+    let same : k .answer ≡ foundOf k = λ i. record { number = was .number i; index = ap (λ (d : ChainLeft). d .index) (was .unchanged (λ z. omega (arith, above, z))) i } in
+    subst (FirstRefused (k .table) (k .w) (k .h) (length (k .before .picture)) (length (k .before .scratch)) (length (k .before .copy)) (k .steps)) (sym same)
+    (of-found (k .table) (k .w) (k .h) (k .before .picture) (k .before .scratch) (k .before .copy) (k .steps) (rw (sym (was .number)) above))
 
-pub first-refused : FirstRefusedOnly
-first-refused κs a r left post above =
-    of-answer (now (a .1 .1 .1 .1 .1 .1 .0)) (a .1 .0) (a .1 .1 .0) (now (a .0)) (now (a .1 .1 .1 .0)) (now (a .1 .1 .1 .1 .0)) (now (a .1 .1 .1 .1 .1 .0)) r
-    (lentCopy (now (left .0)) (now (left .1 .1 .1 .0)) (now (left .1 .1 .1 .1 .0))) post above
+pub first-refused : OfCalls FirstRefusedOnly
+first-refused = of-calls FirstRefusedOnly of-call

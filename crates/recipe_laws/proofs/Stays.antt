@@ -4,12 +4,10 @@ use mathlib.Core.Bool.{Bool, true, false, cond}
 use mathlib.Core.List.{List, [], _∷_, _++_}
 use Prim.Native.Nat.{ℕ, suc}
 use native.Mathlib.Omega.{arith}
-use denote.Ref.{now}
 use lib.Dec.{eqb, lit<}
 use lib.Ieee.{Float}
 use lib.ListN.{length}
 use borrow.Author.Tests.{eqb-false}
-use Rattle.picture.specs.Answer.{answered, lentCopy}
 use Rattle.picture.specs.Modes.{modeOf}
 use Rattle.picture.specs.Refusal.{Check, firstOf}
 use Rattle.picture.proofs.Passed.{passed}
@@ -28,7 +26,9 @@ use Rattle.recipe_checks.proofs.Known.{known-kernel}
 use Rattle.recipes.specs.Chain.{ChainLeft, chainLeft, chainOutcome, chainFound, firstBad, chained}
 use Rattle.recipes.proofs.Found.{head-good, none-by}
 use Rattle.recipes.proofs.OneCall.{kernel-length}
+use Rattle.recipe_laws.specs.Calls.{ListCall}
 use Rattle.recipe_laws.specs.Stays.{LeavesNone, ListStays}
+use Rattle.recipe_laws.proofs.Calls.{Promised, of-calls}
 
 -- one work after another
 kept-by-both : (w h : ℕ) (f g : List ℕ → List ℕ) → KeepsPremultiplied w h f → KeepsPremultiplied w h g → KeepsPremultiplied w h (λ p. g (f p))
@@ -73,25 +73,14 @@ list-keeps table w h i (step ∷ steps) none =
     let good = head-good table i step steps none in
     kept-by-both w h _ _ (step-keeps table w h step (good .0)) (list-keeps table w h (suc i) steps (good .1))
 
-pub list-leaves : (p : List ℕ) (w h : ℕ) (s c : List ℕ) (steps : List Step) (table : List Float) (r : ℕ) (left : ChainLeft) → answered r left ≡ chainOutcome p w h s c steps table →
-    LeavesNone w h p (left .buffers .picture)
+list-leaves : (k : ListCall) → Promised k → LeavesNone (k .w) (k .h) (k .before .picture) (k .after .picture)
 unfolding chainOutcome chainFound
-list-leaves p w h s c steps table r left e fit low =
-    let frame = firstOf (frameChecks (length p) w h (length s) (length c)) in
-    under-alpha (left .buffers .picture) w h .0
-    (either-way (λ (l : ChainLeft). Premultiplied w h (l .buffers .picture)) _ _ _ r left e (under-alpha p w h .1 low)
-    (λ z. list-keeps table w h 0 steps (none-by table steps frame (eqb frame 0) refl (sym z) .1) .premultiplied p (λ i. omega (arith, fit i .fits)) (under-alpha p w h .1 low)))
+list-leaves k e fit low =
+    let frame = firstOf (frameChecks (length (k .before .picture)) (k .w) (k .h) (length (k .before .scratch)) (length (k .before .copy))) in
+    let under = under-alpha (k .before .picture) (k .w) (k .h) .1 low in
+    under-alpha (k .after .picture) (k .w) (k .h) .0
+    (either-way (λ (l : ChainLeft). Premultiplied (k .w) (k .h) (l .buffers .picture)) _ _ _ (k .answer .number) (chainLeft (k .answer .index) (k .after)) e under
+    (λ z. list-keeps (k .table) (k .w) (k .h) 0 (k .steps) (none-by (k .table) (k .steps) frame (eqb frame 0) refl (sym z) .1) .premultiplied (k .before .picture) (λ i. omega (arith, fit i .fits)) under))
 
 pub list-stays : ListStays
-list-stays =
-    record {
-      made = list-keeps;
-      list = λ κs a r left.
-          let work = a .1 .1 .1 in
-          list-leaves (now (a .0)) (a .1 .0) (a .1 .1 .0) (now (work .0)) (now (work .1 .0)) (now (work .1 .1 .0)) (now (work .1 .1 .1 .0)) (r .number)
-          (chainLeft (r .index) (lentCopy (now (left .0)) (now (left .1 .1 .1 .0)) (now (left .1 .1 .1 .1 .0))));
-      from-c = λ κs a r left.
-          let work = a .1 .1 .1 in
-          list-leaves (now (a .0)) (a .1 .0) (a .1 .1 .0) (now (work .0)) (now (work .1 .0)) (now (work .1 .1 .0)) (now (work .1 .1 .1 .0)) r
-          (chainLeft (now (left .1 .1 .1 .1 .1 .1 .1 .0)) (lentCopy (now (left .0)) (now (left .1 .1 .1 .0)) (now (left .1 .1 .1 .1 .0))));
-    }
+list-stays = record { made = list-keeps; left = of-calls _ list-leaves }

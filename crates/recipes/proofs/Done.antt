@@ -16,8 +16,8 @@ use Rattle.picture.proofs.Tests.{neither}
 use Rattle.drop_shadow.specs.Outcome.{eitherShort}
 use Rattle.recipe_checks.specs.declared.Step.{Step}
 use Rattle.recipe_checks.specs.declared.Chained.{Chained}
-use Rattle.recipe_checks.specs.Own.{frameChecks, found}
-use Rattle.recipe_checks.specs.Single.{singleCall, ranStep, finished, ChainRoom}
+use Rattle.recipe_checks.specs.Own.{ownNumber, frameChecks, found}
+use Rattle.recipe_checks.specs.Single.{singleCall, ranStep, worked, finished, ChainRoom}
 use Rattle.recipes.specs.Chain.{firstBad, allNoted, chainFound, allRan, chained, chainLeft, chainAnswer, chainOutcome}
 use Rattle.recipes.proofs.Found.{found-by, none-by, head-good, none-bad}
 use Rattle.recipes.proofs.OneCall.{Framed, Left, calls, worked-length}
@@ -38,6 +38,21 @@ unfolding allRan ranStep
 none-runs table w h fd [] l f = refl
 none-runs table w h fd (step ∷ steps) l f = rw (ne-eqb (fd .number) 0 f) (none-runs table w h fd steps l f)
 
+-- a good recipe's single call: done, and what it leaves is let through by 1 to 3 again
+pub record Stepped (table : List Float) (w h : ℕ) (step : Step) (p s c : List ℕ) (l : LentCopy) : Type 0 where
+  pub done : singleCall table w h step (lentCopy p s c) .number ≡ 0
+  pub left : Left w h (worked table w h step p) s c l
+  pub framed : Framed w h (length (l .picture)) (length (l .scratch)) (length (l .copy))
+
+pub stepped : (table : List Float) (w h : ℕ) (step : Step) (p s c : List ℕ) → ownNumber table step ≡ 0 → Framed w h (length p) (length s) (length c) →
+    Stepped table w h step p s c (singleCall table w h step (lentCopy p s c) .left)
+stepped table w h step p s c good framed =
+    let called = calls table w h step p s c framed good in
+    let one = called .1 in
+    let exact = whole p w h (framed .sides) (framed .exact) .exact in
+    let long : length (singleCall table w h step (lentCopy p s c) .left .picture) ≡ length p = ap length (one .picture-is) ∙ worked-length table w h step p exact ∙ sym exact in
+    record { done = called .0; left = one; framed = rw (long, one .scratch-long, one .copy-long) framed }
+
 -- a chain in which no recipe is bad: the picture of the recipes in order, and the same bytes past 4wh
 pub all-done : (table : List Float) (w h : ℕ) (fd : Chained) → fd .number ≡ 0 → (i : ℕ) (steps : List Step) (p s c : List ℕ) → firstBad table i steps .number ≡ 0 → Framed w h (length p) (length s) (length c) →
     Left w h (chained table w h steps p) s c (allRan table w h fd steps (lentCopy p s c))
@@ -46,17 +61,15 @@ all-done table w h fd zero-is i [] p s c none framed = record { picture-is = ref
 all-done table w h fd zero-is i (step ∷ steps) p s c none framed =
     let good = head-good table i step steps none in
     let l = singleCall table w h step (lentCopy p s c) .left in
-    let one = calls table w h step p s c framed (good .0) .1 in
-    let exact = whole p w h (framed .sides) (framed .exact) .exact in
-    let long : length (l .picture) ≡ length p = ap length (one .picture-is) ∙ worked-length table w h step p exact ∙ sym exact in
-    let rest = all-done table w h fd zero-is (suc i) steps (l .picture) (l .scratch) (l .copy) (good .1) (rw (long, one .scratch-long, one .copy-long) framed) in
+    let one = stepped table w h step p s c (good .0) framed in
+    let rest = all-done table w h fd zero-is (suc i) steps (l .picture) (l .scratch) (l .copy) (good .1) (one .framed) in
     rw (eq-eqb (fd .number) 0 zero-is)
     (record {
-      picture-is = rest .picture-is ∙ ap (chained table w h steps) (one .picture-is);
-      scratch-is = rest .scratch-is ∙ one .scratch-is;
-      scratch-long = rest .scratch-long ∙ one .scratch-long;
-      copy-is = rest .copy-is ∙ one .copy-is;
-      copy-long = rest .copy-long ∙ one .copy-long;
+      picture-is = rest .picture-is ∙ ap (chained table w h steps) (one .left .picture-is);
+      scratch-is = rest .scratch-is ∙ one .left .scratch-is;
+      scratch-long = rest .scratch-long ∙ one .left .scratch-long;
+      copy-is = rest .copy-is ∙ one .left .copy-is;
+      copy-long = rest .copy-long ∙ one .left .copy-long;
     })
 
 module _ (p : List ℕ) (w h : ℕ) (s c : List ℕ) (steps : List Step) (table : List Float) (fd : Chained) where

@@ -4,6 +4,5 @@ pub mod Again
 pub mod Found
 pub mod OneCall
 pub mod Done
-pub mod Theorems
 pub mod Promised
 pub mod Determined

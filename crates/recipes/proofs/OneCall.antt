@@ -77,11 +77,14 @@ pub length-kept : (k : ℕ) (work : List ℕ) → k ≤ length work → length (
 length-kept k work le = ap length (cleared-is k work) ∙ length-front work (replicate k 0) k (zeros-fit k work le)
 
 -- ---- a kernel has its taps
-pub kernel-length : (table : List Float) (k taps : ℕ) → k < kernels (length table) → wrongTaps taps ≡ false → length (kernelOf table k taps) ≡ taps
-unfolding kernelOf wrongTaps zeroOrAbove maxTaps
-kernel-length table k taps l few =
-    let within = ltb-false 33 taps (neither (eqb taps 0) _ few .1) in
+kernel-long : (table : List Float) (k taps : ℕ) → k < kernels (length table) → taps ≤ 33 → length (kernelOf table k taps) ≡ taps
+unfolding kernelOf maxTaps
+kernel-long table k taps l within =
     length-take-le (min taps 33) (drop (33 * k) table) (rw (length-drop (33 * k) table) (omega (arith, inside (length table) k l, min-le-right taps 33))) ∙ min-eq-left within
+
+pub kernel-length : (table : List Float) (k taps : ℕ) → k < kernels (length table) → wrongTaps taps ≡ false → length (kernelOf table k taps) ≡ taps
+unfolding wrongTaps zeroOrAbove maxTaps
+kernel-length table k taps l few = kernel-long table k taps l (ltb-false 33 taps (neither (eqb taps 0) _ few .1))
 
 -- ---- the checks of a good recipe, one by one
 shift-good : (step : Step) → 0 ≡ firstOf (shiftOwn step) → wrongOffsets (step .dx) (step .dy) ≡ false
@@ -171,21 +174,16 @@ module _ (table : List Float) (w h : ℕ) (step : Step) (p s c : List ℕ) (fram
   unfolding ownNumber
   calls good = let own = passed _ _ (lit< tt) (sym good) in by-operation (own .0) (eqb (step .operation) 1) refl (own .1)
 
--- ---- a recipe that 19 lets through, good or not, of at most 33 taps: its single call answers its own number
+-- ---- a recipe that 19 lets through, good or not, and that has at most 33 taps where it reads a kernel: its single call answers its own number
 number-by : {A : Type 0} (k : ℕ) (a b : A) (t : Bool) → eqb k 0 ≡ t → cond t (answered 0 b) (answered k a) .number ≡ k
 number-by k a b true e = sym (eqb-true k 0 e)
 number-by k a b false e = refl
 
-settled-number : {A : Type 0} (k : ℕ) (a b : A) → settled k a b .number ≡ k
+pub settled-number : {A : Type 0} (k : ℕ) (a b : A) → settled k a b .number ≡ k
 unfolding settled
 settled-number k a b = number-by k a b (eqb k 0) refl
 
-kernel-long : (table : List Float) (k taps : ℕ) → k < kernels (length table) → taps ≤ 33 → length (kernelOf table k taps) ≡ taps
-unfolding kernelOf maxTaps
-kernel-long table k taps l within =
-    length-take-le (min taps 33) (drop (33 * k) table) (rw (length-drop (33 * k) table) (omega (arith, inside (length table) k l, min-le-right taps 33))) ∙ min-eq-left within
-
-module _ (table : List Float) (w h : ℕ) (step : Step) (p s c : List ℕ) (framed : Framed w h (length p) (length s) (length c)) (known : unknown (length table) step ≡ false) (within : step .taps ≤ 33) where
+module _ (table : List Float) (w h : ℕ) (step : Step) (p s c : List ℕ) (framed : Framed w h (length p) (length s) (length c)) (known : unknown (length table) step ≡ false) (within : (step .operation ≡ 1 → ⊥) → step .taps ≤ 33) where
   abbrev Answers : Type 0
   Answers = singleCall table w h step (lentCopy p s c) .number ≡ ownNumber table step
 
@@ -206,10 +204,15 @@ module _ (table : List Float) (w h : ℕ) (step : Step) (p s c : List ℕ) (fram
   own-past : (k : ℕ) → k ≡ firstOf (operationOwn table step) → k ≡ ownNumber table step
   own-past k e = own-is table step known e
 
+  kernel-fits : eqb (step .operation) 1 ≡ false → length (stepKernel table step) ≡ step .taps
+  kernel-fits other =
+      let no-shift = eqb-false (step .operation) 1 other in
+      kernel-long table (step .kernel) (step .taps) (known-kernel (length table) step known no-shift) (within no-shift)
+
   by-kernel-answers : (b : Bool) → eqb (step .operation) 0 ≡ b → eqb (step .operation) 1 ≡ false → Answers
   unfolding singleCall kernelCall blurOutcome shadowOutcome
-  by-kernel-answers true is other = own-past _ (rw (known, other, is) (settled-number _ _ _ ∙ blur-alike (kernel-long table (step .kernel) (step .taps) (known-kernel (length table) step known (eqb-false (step .operation) 1 other)) within)))
-  by-kernel-answers false is other = own-past _ (rw (known, other, is) (settled-number _ _ _ ∙ shadow-alike (kernel-long table (step .kernel) (step .taps) (known-kernel (length table) step known (eqb-false (step .operation) 1 other)) within)))
+  by-kernel-answers true is other = own-past _ (rw (known, other, is) (settled-number _ _ _ ∙ blur-alike (kernel-fits other)))
+  by-kernel-answers false is other = own-past _ (rw (known, other, is) (settled-number _ _ _ ∙ shadow-alike (kernel-fits other)))
 
   by-answers : (b : Bool) → eqb (step .operation) 1 ≡ b → Answers
   unfolding singleCall shiftOutcome

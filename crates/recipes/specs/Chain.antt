@@ -1,5 +1,4 @@
 -- A list of recipes: all are checked before the first runs, and then they run in order on one picture.
-use mathlib.Core.Path.{_≡_}
 use mathlib.Core.Bool.{cond}
 use mathlib.Core.List.{List, [], _∷_}
 use Prim.Native.Nat.{ℕ, suc}
@@ -12,7 +11,7 @@ use Rattle.picture.specs.Answer.{Answer, answered, settled, LentCopy, lentCopy}
 use Rattle.recipe_checks.specs.declared.Step.{Step}
 use Rattle.recipe_checks.specs.declared.Chained.{Chained}
 use Rattle.recipe_checks.specs.Own.{ownNumber, frameChecks, found, noted}
-use Rattle.recipe_checks.specs.Single.{singleCall, ranStep, worked}
+use Rattle.recipe_checks.specs.Single.{ranStep, worked}
 
 -- what stands past the end of a list: no operation has this number
 abbrev pub noStep : Step
@@ -80,13 +79,3 @@ chainOutcome p w h s c steps table =
     let r = chainFound (length p) w h (length s) (length c) steps table in
     settled (r .number) (chainLeft (r .index) (lentCopy p s c))
     (chainLeft 0 (lentCopy (chained table w h steps p) (cleared (bytesOf w h) s) (cleared (bytesOf w h) c)))
-
--- the single calls one after the other, each on what the one before it left
-unfoldable pub singleCalls : List Float → ℕ → ℕ → List Step → LentCopy → LentCopy
-singleCalls table w h [] l = l
-singleCalls table w h (step ∷ steps) l = singleCalls table w h steps (singleCall table w h step l .left)
-
--- each of these calls answers 0
-unfoldable pub allAnswer : List Float → ℕ → ℕ → List Step → LentCopy → Type 0
-allAnswer table w h [] l = Unit {0}
-allAnswer table w h (step ∷ steps) l = (singleCall table w h step l .number ≡ 0) × allAnswer table w h steps (singleCall table w h step l .left)

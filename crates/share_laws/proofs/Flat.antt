@@ -14,8 +14,8 @@ use Rattle.picture.specs.declared.EdgeMode.{EdgeMode}
 use Rattle.picture.specs.declared.EdgeMode.the-variants.{Duplicate, Wrap, Mirror, None}
 use Rattle.edges.specs.declared.At.the-variants.{Inside}
 use Rattle.edges.specs.Edges.{modulo, place, valueAt, sample}
-use Rattle.edges.proofs.Samples.{sample-relates}
 use Rattle.binary32.specs.Grid.{sum}
+use Rattle.passes.proofs.Taps.{sample-most}
 use Rattle.grid_sums.specs.Sums.{gridSum}
 use Rattle.exact_blur.specs.Exact.{exactHalve, exactDouble, exactConvolve}
 use Rattle.share_laws.specs.Share.{lineBlur, exactLine, axisScale}
@@ -82,24 +82,21 @@ module _ (mode : EdgeMode) (f : mode ≡ None → ⊥) (ms : List ℕ) (e : sum 
 
 -- a line with no value above k, whatever the edge rule
 module _ (mode : EdgeMode) where
-  under : (line : Line) (k : ℕ) → ((i : ℕ) → line i ≤ k) → (s c d : ℕ) → sample mode s line c d ≤ k
-  under line k all s c d = sample-relates mode s line line c d (λ a _. a ≤ k) (omega arith) all
-
   pub halve-most : (line : Line) (k : ℕ) → ((i : ℕ) → line i ≤ k) → (s x : ℕ) → exactHalve mode s line x ≤ 8 * k
   unfolding exactHalve
   halve-most line k all s x =
-      let at = under line k all s in omega (arith, at (2 * x) 1, at (2 * x) 0, at (2 * x + 1) 0, at (2 * x + 2) 0)
+      let at = sample-most mode line k all s in omega (arith, at (2 * x) 1, at (2 * x) 0, at (2 * x + 1) 0, at (2 * x + 2) 0)
 
   pub double-most : (line : Line) (k : ℕ) → ((i : ℕ) → line i ≤ k) → (s y : ℕ) → exactDouble mode s line y ≤ 4 * k
   unfolding exactDouble
   double-most line k all s y =
-      let at = under line k all s in
+      let at = sample-most mode line k all s in
       either (λ a. a ≤ 4 * k) (eqb (y % 2) 0) _ _ (omega (arith, at (y / 2) 1, at (y / 2) 0)) (omega (arith, at (y / 2) 0, at (y / 2 + 1) 0))
 
   pub convolve-most : (ms : List ℕ) → sum ms ≤ 65536 → (line : Line) (k : ℕ) → ((i : ℕ) → line i ≤ k) → (s x : ℕ) → exactConvolve mode ms s line x ≤ 65536 * k
   unfolding gridSum
   convolve-most ms fits line k all s x =
-      let most = rw (sum-is ms) at (sum-most (λ j. sample mode s line (x + j) (length ms / 2)) (λ j. getD ms j 0) k (λ j. under line k all s (x + j) (length ms / 2)) (length ms)) in
+      let most = rw (sum-is ms) at (sum-most (λ j. sample mode s line (x + j) (length ms / 2)) (λ j. getD ms j 0) k (λ j. sample-most mode line k all s (x + j) (length ms / 2)) (length ms)) in
       omega (arith, most, mul-le-mul-right k fits, mul-comm k (sum ms))
 
   pub line-most : (ms : List ℕ) → sum ms ≤ 65536 → (n s : ℕ) (line : Line) (k : ℕ) → ((i : ℕ) → line i ≤ k) → (x : ℕ) → exactLine mode ms n s line x ≤ axisScale n * k

@@ -7,29 +7,29 @@ use denote.Ref.{now}
 use Rattle.picture.specs.declared.EdgeMode.{EdgeMode}
 use Rattle.picture.proofs.Spans.{within}
 use Rattle.edges.specs.Edges.{Reach}
+use Rattle.passes.proofs.Taps.{few-taps}
 use Rattle.block_sums.specs.Bytes.{Convolved, Strip}
 use Rattle.blocks.proofs.Progress.{made-none, made-in, made-run, made-join}
 use Rattle.blocks.proofs.Places.{strip-place, strip-at}
-use Rattle.block_sums.proofs.Taps.{some-taps, block-reach, taps-room}
+use Rattle.block_sums.proofs.Taps.{block-reach, taps-room}
 use Rattle.block_sums.proofs.Bytes.{Filled, lane-byte, lane-nonneg}
 use Rattle.block_sums.proofs.convolve_strip.Statement.{statement}
 use Rattle.block_sums.proofs.convolve_strip.Tie as tie
 
 -- the loop does not know the edge rule: it holds of any by which the line is filled
 abbrev Inv-loop : tie.InvT-loop
-Inv-loop line acc₀ src start dst₀ len stride x m from n weights taps more i₀ acc dst i =
+Inv-loop line src start dst₀ len stride x m from n weights taps more i₀ dst i =
     (i ≤ m)
-    × (length acc ≡ length acc₀)
     × (length dst ≡ length dst₀)
     × ((mode : EdgeMode) → Filled mode weights src start len stride from n x m line →
     Convolved mode weights src start len stride (Strip stride x (x + i) from (from + n)) dst₀ dst)
 
 abbrev μ-loop : tie.MeasureT-loop
-μ-loop line acc₀ src start dst₀ len stride x m from n weights taps more i₀ acc dst i = m - i
+μ-loop line src start dst₀ len stride x m from n weights taps more i₀ dst i = m - i
 
 -- where the function starts, from the loop's head
 abbrev start : tie.At-loop Inv-loop μ-loop → tie.Start Inv-loop μ-loop
-start l = l .before .before .before .before .before .before .before .before .before .before
+start l = l .before .before .before .before .before .before .before .before .before
 
 reach : (s : tie.Start Inv-loop μ-loop) → let a = s .args in let k = length (now (a .weights)) in Reach (a .len) (a .x + (a .m + (k - 1))) (k / 2)
 reach s = block-reach (s .pre .0) (s .args .x) (s .args .m) (s .pre .1 .0 .0) (s .pre .1 .0 .1)
@@ -49,7 +49,7 @@ module _ (c : tie.In-loop Inv-loop μ-loop) where
       let l = c .before in
       let s = start l in
       let p = s .pre .1 in
-      omega (arith, within 0 (s .args .stride) (s .args .x + l .loop .i) (s .args .len) (omega (arith, c .loop-test .taken, p .0 .1)), p .1 .0, p .1 .1 .1 .1, l .loop .inv .2)
+      omega (arith, within 0 (s .args .stride) (s .args .x + l .loop .i) (s .args .len) (omega (arith, c .loop-test .taken, p .0 .1)), p .1 .0, p .1 .1 .1 .1, l .loop .inv .1)
 
   turn : let a = start (c .before) .args in c .before .loop .i * a .n + a .n ≤ a .m * a .n
   turn = let l = c .before in let a = start l .args in omega (arith, within 0 (a .n) (l .loop .i) (a .m) (c .loop-test .taken))
@@ -58,50 +58,45 @@ module _ (c : tie.In-loop Inv-loop μ-loop) where
   reaches =
       let s = start (c .before) in
       let a = s .args in
-      omega (arith, taps-room (a .m) (length (now (a .weights))) (a .n) (some-taps (s .pre .0 .kernel)), s .pre .1 .1 .1 .0, turn)
+      omega (arith, taps-room (a .m) (length (now (a .weights))) (a .n) (few-taps _ (s .pre .0 .kernel .counted) .0), s .pre .1 .1 .1 .0, turn)
 
 fill-requires : tie.Need-fill-requires Inv-loop μ-loop
 fill-requires c κs =
-    let s = c .before .before .before .before .before .before in
+    let s = c .before .before .before .before .before in
     ((omega arith, s .pre .1 .1 .1 .0), (s .pre .1 .1 .1 .1 .1, (s .pre .0 .end, reach s)))
 
 loop-holds : tie.Need-loop-holds Inv-loop μ-loop
-loop-holds c = (omega arith, refl, refl, (λ mode f. made-none (λ j r. omega arith)))
+loop-holds c = (omega arith, refl, (λ mode f. made-none (λ j r. omega arith)))
 
 weigh-requires : tie.Need-weigh-requires Inv-loop μ-loop
 weigh-requires c κs =
-    let t = c .before .before .before in
+    let t = c .before .before in
     let l = t .before in
     let s = start l in
-    let k = s .pre .0 .kernel in
-    let n = s .pre .1 .1 .1 .1 in (
+    let k = s .pre .0 .kernel in (
       ends t,
-      (
-        omega (arith, n .2, l .loop .inv .1),
-        (
-          record {
-            some = some-taps k;
-            last = omega (arith, reaches t, l .before .before .before .fill .kept .0);
-          },
-          (λ i h. lane-nonneg (filled l) k (n .0) (l .loop .i) i refl (omega (arith, turn t)) (bytes l)),
-        ),
-      ),
+      record {
+        reaches = record {
+          some = few-taps _ (k .counted) .0;
+          last = omega (arith, reaches t, l .before .before .before .fill .kept .0);
+        };
+        nonnegative = λ i h. lane-nonneg (filled l) k (s .pre .1 .1 .1 .1 .0) (l .loop .i) i refl (omega (arith, turn t)) (bytes l);
+      },
     )
 
 loop-again : tie.Need-loop-again Inv-loop μ-loop
 loop-again c =
-    let w = c .before .before .before .before in
-    let t = w .before .before .before .before in
+    let w = c .before .before in
+    let t = w .before .before .before in
     let l = t .before in
     let s = start l in
     let a = s .args in
     let i = l .loop .i in
     let n = s .pre .1 .1 .1 .1 in (
       omega arith,
-      w .weigh .kept .1 .1 .1 .0 ∙ l .loop .inv .1,
-      w .weigh .kept .0 ∙ l .loop .inv .2,
+      w .weigh .kept .0 ∙ l .loop .inv .1,
       (λ mode f.
-          made-join (λ j. j / a .stride) (a .x + i) (l .loop .inv .3 mode f)
+          made-join (λ j. j / a .stride) (a .x + i) (l .loop .inv .2 mode f)
           (made-run (w .weigh .ensures)
           (λ k h. lane-byte f (s .pre .0 .kernel) (n .0) i k refl (omega (arith, turn t)) _ (strip-at (a .stride) (a .x) i (a .from) (a .n) (n .1) k h)))
           (λ j r u. omega arith)
@@ -111,7 +106,7 @@ loop-again c =
 returns : tie.Need-returns Inv-loop μ-loop
 returns c =
     let l = c .before in
-    made-in (l .loop .inv .3 (start l .args .mode) (filled l)) (λ j r. omega arith)
+    made-in (l .loop .inv .2 (start l .args .mode) (filled l)) (λ j r. omega arith)
 
 pub convolve-strip-spec : {M : Type 1} → statement M
 convolve-strip-spec =
@@ -119,19 +114,18 @@ convolve-strip-spec =
     (tie.spec
     Inv-loop
     μ-loop
-    (λ c. omega (arith, some-taps (c .before .before .before .before .before .pre .0 .kernel)))
-    (λ c. omega (arith, reach (c .before .before .before .before .before .before) .c-high))
+    (λ c. omega (arith, few-taps _ (c .before .before .before .before .pre .0 .kernel .counted)))
+    (λ c. omega (arith, reach (c .before .before .before .before .before) .c-high))
     fill-requires
     loop-holds
     (λ c. omega (arith, c .before .loop-test .taken, reach (start (c .before .before)) .c-high))
     (λ c. omega (arith, ends (c .before)))
     (λ c. omega (arith, ends (c .before)))
-    (λ c. let t = c .before .before .before in omega (arith, reaches t, start (t .before) .good .0 .0))
+    (λ c. let t = c .before .before in omega (arith, reaches t, start (t .before) .good .0 .0))
     weigh-requires
     (λ c. omega arith)
     (λ c. omega arith)
     loop-again
     (λ c. c .before .before .before .before .fill .kept .0)
     (λ c. c .before .loop .inv .1)
-    (λ c. c .before .loop .inv .2)
     returns)

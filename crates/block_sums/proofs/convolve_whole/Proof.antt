@@ -7,9 +7,10 @@ use borrow.Author.Needs.{needs}
 use lib.ListN.{length, getD}
 use denote.Ref.{now}
 use Rattle.edges.specs.Edges.{Reach}
+use Rattle.passes.proofs.Taps.{few-taps}
 use Rattle.blocks.proofs.Progress.{made-in, made-run}
 use Rattle.blocks.proofs.Places.{whole-place, whole-at}
-use Rattle.block_sums.proofs.Taps.{some-taps, block-reach, taps-room}
+use Rattle.block_sums.proofs.Taps.{block-reach, taps-room}
 use Rattle.block_sums.proofs.Bytes.{Filled, lane-byte, lane-nonneg}
 use Rattle.block_sums.proofs.convolve_whole.Statement.{statement}
 use Rattle.block_sums.proofs.convolve_whole.Tie as tie
@@ -26,7 +27,7 @@ module _ (s : tie.Start) where
 
 -- where the function starts, from its first call
 abbrev start : tie.After-fill-whole → tie.Start
-start t = t .before .before .before .before .before .before .before
+start t = t .before .before .before .before .before .before
 
 module _ (t : tie.After-fill-whole) where
   bytes : (k : ℕ) → getD (now (start t .args .src)) k 0 ≤ 255
@@ -38,33 +39,30 @@ module _ (t : tie.After-fill-whole) where
 
 fill-whole-requires : tie.Need-fill-whole-requires
 fill-whole-requires c κs =
-    let s = c .before .before .before .before .before .before in
-    let k = some-taps (s .pre .0 .kernel) in
-    ((omega (arith, s .pre .1 .0), omega (arith, s .pre .1 .0), s .pre .0 .stride-low), (s .pre .1 .1 .1 .0, (s .pre .0 .end, reach s)))
+    let s = c .before .before .before .before .before in
+    let few = few-taps _ (s .pre .0 .kernel .counted) in
+    ((omega (arith, s .pre .1 .0), omega (arith, s .pre .1 .0), s .pre .0 .stride-low), (s .pre .1 .1 .1, (s .pre .0 .end, reach s)))
 
 weigh-requires : tie.Need-weigh-requires
 weigh-requires c κs =
-    let t = c .before .before .before .before .before in
+    let t = c .before .before .before .before in
     let s = start t in
     let a = s .args in
     let k = s .pre .0 .kernel in (
       ends s,
-      (
-        s .pre .1 .1 .1 .1,
-        (
-          record {
-            some = some-taps k;
-            last = omega (arith, taps-room (a .m) (length (now (a .weights))) (a .stride) (some-taps k), s .pre .1 .1 .1 .0, t .fill-whole .kept .0);
-          },
-          (λ i h. lane-nonneg (filled t) k (s .pre .0 .stride-low) 0 i (sym (zero-mul (a .stride))) (omega (arith, zero-mul (a .stride))) (bytes t)),
-        ),
-      ),
+      record {
+        reaches = record {
+          some = few-taps _ (k .counted) .0;
+          last = omega (arith, taps-room (a .m) (length (now (a .weights))) (a .stride) (few-taps _ (k .counted) .0), s .pre .1 .1 .1, t .fill-whole .kept .0);
+        };
+        nonnegative = λ i h. lane-nonneg (filled t) k (s .pre .0 .stride-low) 0 i (sym (zero-mul (a .stride))) (omega (arith, zero-mul (a .stride))) (bytes t);
+      },
     )
 
 returns : tie.Need-returns
 returns c =
-    let w = c .before .before .before .before in
-    let t = w .before .before .before .before .before .before in
+    let w = c .before .before in
+    let t = w .before .before .before .before .before in
     let s = start t in
     let a = s .args in
     let z = s .pre .0 .stride-low in
@@ -77,13 +75,12 @@ pub convolve-whole-spec : {M : Type 1} → statement M
 convolve-whole-spec =
     tie.close
     (tie.spec
-    (λ c. omega (arith, some-taps (c .before .before .before .before .before .pre .0 .kernel)))
-    (λ c. omega (arith, reach (c .before .before .before .before .before .before) .c-high))
+    (λ c. omega (arith, few-taps _ (c .before .before .before .before .pre .0 .kernel .counted)))
+    (λ c. omega (arith, reach (c .before .before .before .before .before) .c-high))
     fill-whole-requires
-    (λ c. omega (arith, ends (c .before .before .before .before .before .before .before .before .before .before)))
+    (λ c. omega (arith, ends (c .before .before .before .before .before .before .before .before .before)))
     (λ c. search needs)
     weigh-requires
-    (λ c. search needs)
     (λ c. search needs)
     (λ c. search needs)
     returns)

@@ -1,4 +1,4 @@
--- The buffers have room for as many elements as their sums allow.
+-- The buffer has room for as many elements as a block has.
 use borrow.Author.Needs.{needs}
 use Rattle.convolve.proofs.Room.{long-room}
 use Rattle.convolve.proofs.convolve_long.Statement.{statement}
@@ -6,7 +6,7 @@ use Rattle.convolve.proofs.convolve_long.Tie as tie
 
 each-line-requires : tie.Need-each-line-requires
 each-line-requires c κs =
-    let t = c .before .before .before in
+    let t = c .before .before in
     let s = t .before .before .before .before in
     (s .pre, long-room (s .pre .lined .stride-low) (t .least .ensures))
 
@@ -15,7 +15,6 @@ convolve-long-spec =
     tie.close
     (tie.spec
     (λ c κs. search needs)
-    (λ c. search needs)
     (λ c. search needs)
     (λ c. search needs)
     each-line-requires

@@ -1,17 +1,16 @@
 -- The cycle of calls {apply_blur}: the number of decimations falls at each call.
-use Prim.Native.Nat.{ℕ, _<_, _≤_}
+use Prim.Native.Nat.{ℕ, _<_}
 use mathlib.Core.Path.{_≡_, _∙_, sym}
-use mathlib.Core.List.{List, _++_}
+use mathlib.Core.List.{List}
 use native.Mathlib.Omega.{arith}
-use lib.ListN.{length, take, drop}
-use lib.Seq.{length-take-le}
+use lib.ListN.{length}
 use borrow.Author.Needs.{needs}
 use borrow.Fn.Kinds.{In}
 use borrow.Fn.PlainCycle.{Measures, is, falls, and}
 use Rattle.passes.specs.Passes.{convolve}
 use Rattle.passes.specs.Forms.{formBytes}
 use Rattle.passes.proofs.Local.{convolve-local}
-use Rattle.gaussian_blur.proofs.Step.{blurred-none, step, part-sized, part-fits, part-long, part-back}
+use Rattle.gaussian_blur.proofs.Step.{Part, blurred-none, below-sized, part-fits, part-counts, part-long, part-back, step}
 use Rattle.gaussian_blur.proofs.apply_blur.Reads as apply-blur
 use Rattle.gaussian_blur.proofs.apply_blur.Kinds as kinds
 use Rattle.gaussian_blur.proofs.+apply_blur.Lts-apply_blur as lts
@@ -31,71 +30,39 @@ abbrev at : ℕ → In 3 kinds.ps
 at t = and 3 kinds.ps (is 3 kinds.ps μ t) apply-blur.Pre
 
 abbrev calls : ℕ → lts.Claims
-calls t = (
-  convolve-form.Asked,
-  convolve-form.Learnt,
-  half.Asked,
-  half.Learnt,
-  form-bytes.Asked,
-  form-bytes.Learnt,
-  halve-form.Asked,
-  halve-form.Learnt,
-  and 3 kinds.ps (falls 3 kinds.ps _<_ μ t) apply-blur.Pre,
-  apply-blur.Post,
-  double-form.Asked,
-  double-form.Learnt,
-)
+calls t =
+    (convolve-form.Asked, convolve-form.Learnt, half.Asked, half.Learnt, form-bytes.Asked, form-bytes.Learnt, halve-form.Asked, halve-form.Learnt, and 3 kinds.ps (falls 3 kinds.ps _<_ μ t) apply-blur.Pre, apply-blur.Post, double-form.Asked, double-form.Learnt)
 
 module _ (t : ℕ) where
-  -- once the level below is measured: it takes the first part of either buffer
-  module _ (b : lts.After-form-bytes (calls t) (at t) apply-blur.Post) where
-    abbrev start : lts.Start (calls t) (at t) apply-blur.Post
-    start = b .before .before .before .before .before .before
-
-    abbrev bytes : ℕ
-    bytes = formBytes (start .args .form) (start .args .s .w) (start .args .s .h)
-
-    fits : (l : List ℕ) → length l ≡ bytes → b .form-bytes .result ≤ length l
-    fits = part-fits (start .args .form) (start .args .s) (start .pre .1 .1 .0) (b .before .half .ensures) (b .form-bytes .ensures)
-
-    counts : (l : List ℕ) → length l ≡ bytes → b .form-bytes .result ≡ length (take (b .form-bytes .result) l)
-    counts l e = sym (length-take-le _ l (fits l e))
-
-    long : (l : List ℕ) → length l ≡ bytes → length (take (b .form-bytes .result) l) ≡ formBytes (start .args .form) (b .before .half .result .w) (b .before .half .result .h)
-    long = part-long (start .args .form) (start .args .s) (start .pre .1 .1 .0) (b .before .half .ensures) (b .form-bytes .ensures)
-
-    whole : (l : List ℕ) → length l ≡ bytes → (part : List ℕ) → length part ≡ length (take (b .form-bytes .result) l) → length (part ++ drop (b .form-bytes .result) l) ≡ bytes
-    whole = part-back (start .args .form) (start .args .s) (start .pre .1 .1 .0) (b .before .half .ensures) (b .form-bytes .ensures)
-
-  -- once halved: the buffers are as long as they were
+  -- once halved: the level below takes the first part of either buffer
   module _ (h : lts.After-halve-form (calls t) (at t) apply-blur.Post) where
     abbrev size : lts.After-form-bytes (calls t) (at t) apply-blur.Post
     size = h .before .before .before
 
-    picture-is : length (h .halve-form .last .0) ≡ bytes size
-    picture-is = h .halve-form .kept .0 ∙ start size .pre .1 .1 .1 .0
+    abbrev start : lts.Start (calls t) (at t) apply-blur.Post
+    start = size .before .before .before .before .before .before
 
-    scratch-is : length (h .halve-form .last .1 .0) ≡ bytes size
-    scratch-is = h .halve-form .kept .1 .0 ∙ start size .pre .1 .1 .1 .1 .0
+    abbrev Taken : List ℕ → Type 0
+    Taken = Part (start .args .form) (start .args .s) (size .before .half .result) (size .form-bytes .result)
 
-  -- once the level below is blurred: both buffers are whole again
-  module _ (r : lts.After-apply-blur (calls t) (at t) apply-blur.Post) where
-    abbrev halved : lts.After-halve-form (calls t) (at t) apply-blur.Post
-    halved = r .before .before .before .before .before .before .before
+    takes : {l : List ℕ} → length l ≡ formBytes (start .args .form) (start .args .s .w) (start .args .s .h) → Taken l
+    takes e = record { sized = start .pre .1 .1 .0; below = size .before .half .ensures; bytes = size .form-bytes .ensures; all = e }
 
-    picture-back : length (r .apply-blur .last .0 ++ drop (size halved .form-bytes .result) (halved .halve-form .last .0)) ≡ bytes (size halved)
-    picture-back = whole (size halved) (halved .halve-form .last .0) (picture-is halved) (r .apply-blur .last .0) (r .apply-blur .kept .0)
+    picture : Taken (h .halve-form .last .0)
+    picture = takes (h .halve-form .kept .0 ∙ start .pre .1 .1 .1 .0)
 
-    scratch-back : length (r .apply-blur .last .1 .0 ++ drop (size halved .form-bytes .result) (halved .halve-form .last .1 .0)) ≡ bytes (size halved)
-    scratch-back = whole (size halved) (halved .halve-form .last .1 .0) (scratch-is halved) (r .apply-blur .last .1 .0) (r .apply-blur .kept .1 .0)
+    scratch : Taken (h .halve-form .last .1 .0)
+    scratch = takes (h .halve-form .kept .1 .0 ∙ start .pre .1 .1 .1 .1 .0)
+
+  abbrev halved : lts.After-apply-blur (calls t) (at t) apply-blur.Post → lts.After-halve-form (calls t) (at t) apply-blur.Post
+  halved r = r .before .before .before .before .before .before .before
 
   below : lts.Need-apply-blur-requires (calls t) (at t) apply-blur.Post
   below c κs =
       let h = c .before .before .before .before .before .before in
-      let b = size h in
-      let st = start b in (
-        omega (arith, st .pre .0, b .before .before .if1 .left),
-        (st .pre .1 .0, (part-sized (st .args .form) (st .args .s) (st .pre .1 .1 .0) (b .before .half .ensures), (long b (h .halve-form .last .0) (picture-is h), (long b (h .halve-form .last .1 .0) (scratch-is h), st .pre .1 .1 .1 .1 .1)))),
+      let st = start h in (
+        omega (arith, st .pre .0, size h .before .before .if1 .left),
+        (st .pre .1 .0, (below-sized (st .args .s) (st .pre .1 .1 .0) (size h .before .half .ensures), (part-long (picture h), (part-long (scratch h), st .pre .1 .1 .1 .1 .1)))),
       )
 
   none-left : lts.Need-returns (calls t) (at t) apply-blur.Post
@@ -110,27 +77,23 @@ module _ (t : ℕ) where
       let d = c .before .before .before .before in
       let r = d .before .before .before .before .before .before .before in
       let h = halved r in
-      let b = size h in
-      let a = start b .args in
-      step (a .form) (convolve (a .mode) (a .weights .now)) (convolve-local (a .mode) (a .weights .now)) (a .mode) (a .s) (start b .pre .1 .1 .0) (a .picture .now) (a .n) (b .before .half .result) (b .form-bytes .result) (h .halve-form .last .0) (r .apply-blur .last .0) (d .double-form .last .0)
-      (b .before .before .if1 .left) (b .before .half .ensures) (b .form-bytes .ensures) (fits b (h .halve-form .last .0) (picture-is h)) (r .apply-blur .kept .0) (h .halve-form .ensures) (r .apply-blur .ensures) (d .double-form .ensures)
+      let a = start h .args in
+      step (picture h) (convolve (a .mode) (a .weights .now)) (convolve-local (a .mode) (a .weights .now)) (a .mode) (a .n) (a .picture .now) (size h .before .before .if1 .left) (r .apply-blur .kept .0) (h .halve-form .ensures) (r .apply-blur .ensures) (d .double-form .ensures)
 
 pub +apply-blur-spec : {M : Type 1} → statement M
 +apply-blur-spec = close μ λ t. lts.spec (calls t) (at t) apply-blur.Post
     (λ c κs. c .before .before .before .before .before .before .pre .1)
     (λ c κs. c .before .before .before .before .pre .1 .1 .0)
-    (λ c κs. let st = c .before .before .before .before .before in (st .pre .1 .0, part-sized (st .args .form) (st .args .s) (st .pre .1 .1 .0) (c .half .ensures)))
+    (λ c κs. let st = c .before .before .before .before .before in (st .pre .1 .0, below-sized (st .args .s) (st .pre .1 .1 .0) (c .half .ensures)))
     (λ c κs. let p = c .before .before .before .before .before .before .before .before .pre .1 in record { formed = p .0; sized = p .1 .0; picture-length = p .1 .1 .0; scratch-length = p .1 .1 .1 .0 })
-    (λ c. let h = c .before .before .before .before in fits t (size t h) (h .halve-form .last .0) (picture-is t h))
-    (λ c. let h = c .before .before .before .before .before in counts t (size t h) (h .halve-form .last .0) (picture-is t h))
-    (λ c. let h = c .before .before .before .before .before in fits t (size t h) (h .halve-form .last .1 .0) (scratch-is t h))
-    (λ c. let h = c .before .before .before .before .before .before in counts t (size t h) (h .halve-form .last .1 .0) (scratch-is t h))
+    (λ c. part-fits (picture t (c .before .before .before .before))) (λ c. part-counts (picture t (c .before .before .before .before .before)))
+    (λ c. part-fits (scratch t (c .before .before .before .before .before))) (λ c. part-counts (scratch t (c .before .before .before .before .before .before)))
     (λ c. omega arith)
     (below t)
-    (λ c κs. let r = c .before .before .before .before .before .before in let p = start t (size t (halved t r)) .pre .1 in record { formed = p .0; sized = p .1 .0; picture-length = picture-back t r; scratch-length = scratch-back t r })
+    (λ c κs. let r = c .before .before .before .before .before .before in let h = halved t r in let p = start t h .pre .1 in record { formed = p .0; sized = p .1 .0; picture-length = part-back (picture t h) (r .apply-blur .last .0) (r .apply-blur .kept .0); scratch-length = part-back (scratch t h) (r .apply-blur .last .1 .0) (r .apply-blur .kept .1 .0) })
     (λ c. search needs)
     (λ c. search needs)
     (none-left t)
-    (λ c. let d = c .before .before .before .before in let r = d .before .before .before .before .before .before .before in d .double-form .kept .0 ∙ picture-back t r ∙ sym (start t (size t (halved t r)) .pre .1 .1 .1 .0))
-    (λ c. let d = c .before .before .before .before in let r = d .before .before .before .before .before .before .before in d .double-form .kept .1 .0 ∙ scratch-back t r ∙ sym (start t (size t (halved t r)) .pre .1 .1 .1 .1 .0))
+    (λ c. let d = c .before .before .before .before in let r = d .before .before .before .before .before .before .before in let h = halved t r in d .double-form .kept .0 ∙ part-back (picture t h) (r .apply-blur .last .0) (r .apply-blur .kept .0) ∙ sym (start t h .pre .1 .1 .1 .0))
+    (λ c. let d = c .before .before .before .before in let r = d .before .before .before .before .before .before .before in let h = halved t r in d .double-form .kept .1 .0 ∙ part-back (scratch t h) (r .apply-blur .last .1 .0) (r .apply-blur .kept .1 .0) ∙ sym (start t h .pre .1 .1 .1 .1 .0))
     (more-left t)

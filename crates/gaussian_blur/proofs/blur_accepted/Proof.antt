@@ -1,12 +1,10 @@
 -- The scratch's first part is lent to the blur, comes back, and is cleared.
-use mathlib.Core.Path.{ap, ap₂, sym, _∙_}
-use Prim.Native.Nat.{ℕ, _≤_}
+use mathlib.Core.Path.{sym, _∙_}
+use Prim.Native.Nat.{_≤_}
 use native.Mathlib.Omega.{arith}
 use lib.ListN.{length}
 use lib.Seq.{length-take-le, length-front}
-use Rattle.picture.specs.Planes.{cleared}
-use Rattle.picture.specs.Answer.{lent}
-use Rattle.gaussian_blur.proofs.Outcomes.{cleared-part}
+use Rattle.gaussian_blur.proofs.Outcomes.{lent-cleared}
 use borrow.Author.Needs.{needs}
 use Rattle.gaussian_blur.proofs.blur_accepted.Statement.{statement}
 use Rattle.gaussian_blur.proofs.blur_accepted.Tie as tie
@@ -41,11 +39,8 @@ returns : tie.Need-returns
 returns c =
     let v = c .before .before .before .before .before .before .before .before in
     let b = v .before .before .before in
-    let a = b .before .before .before .before .args in
-    ap₂ lent (v .blur-or-keep .ensures)
-    (c .before .before .clear .ensures
-    ∙ cleared-part (b .bytes .result) (a .scratch .now) (v .blur-or-keep .last .1 .0) (k-fits b) (v .blur-or-keep .kept .1 .0)
-    ∙ ap (λ (n : ℕ). cleared n (a .scratch .now)) (b .bytes .ensures))
+    let s = b .before .before .before .before in
+    lent-cleared (s .args .scratch .now) (v .blur-or-keep .last .1 .0) (b .bytes .ensures) (s .pre .room) (v .blur-or-keep .kept .1 .0) (v .blur-or-keep .ensures) (c .before .before .clear .ensures)
 
 pub blur-accepted-spec : {M : Type 1} → statement M
 blur-accepted-spec =

@@ -1,8 +1,8 @@
 -- By the strength: blurred from level 0 on, or left alone.
-use mathlib.Core.Path.{_∙_, sym}
+use mathlib.Core.Path.{_∙_}
 use lib.Ieee.{ofBits}
 use Rattle.passes.specs.Passes.{convolve}
-use Rattle.passes.proofs.Forms.{pixels-formed, pixel-bytes}
+use Rattle.passes.proofs.Forms.{pixels-formed, as-pixels}
 use Rattle.passes.proofs.Local.{convolve-local}
 use Rattle.gaussian_blur.specs.Blurred.{blurred}
 use Rattle.gaussian_blur.proofs.Step.{pixels-blurred}
@@ -15,8 +15,7 @@ apply-blur-requires : tie.Need-apply-blur-requires
 apply-blur-requires c κs =
     let s = c .before .before .before .before .before .before .before in
     let z = s .args .size in
-    let as-formed = sym (pixel-bytes (z .w) (z .h)) in
-    rw (c .level-zero .ensures) (pixels-formed, (s .pre .pictured .sized, (s .pre .pictured .exact ∙ as-formed, (s .pre .scratch-is ∙ as-formed, s .pre .kernel))))
+    rw (c .level-zero .ensures) (pixels-formed, (s .pre .pictured .sized, (as-pixels (z .w) (z .h) (s .pre .pictured .exact), (as-pixels (z .w) (z .h) (s .pre .scratch-is), s .pre .kernel))))
 
 returns : tie.Need-returns
 unfolding ofBits blurred

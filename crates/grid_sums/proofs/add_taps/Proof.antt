@@ -7,7 +7,8 @@ use denote.Ref.{now}
 use Rattle.picture.proofs.Sizes.{room-is}
 use Rattle.picture.proofs.Spans.{span-at}
 use Rattle.edges.specs.Edges.{Reach}
-use Rattle.grid_sums.proofs.Sums.{few-taps, numerator-fits}
+use Rattle.passes.proofs.Taps.{few-taps}
+use Rattle.grid_sums.proofs.Sums.{numerator-fits}
 use Rattle.grid_sums.proofs.Lanes.{partSum, part-none, part-more, part-all, part-fits}
 use Rattle.grid_sums.proofs.add_taps.Statement.{statement}
 use Rattle.grid_sums.proofs.add_taps.Tie as tie

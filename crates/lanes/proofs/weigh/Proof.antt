@@ -1,27 +1,30 @@
--- What is rounded are the sums.
-use mathlib.Core.Path.{sym, subst, ap}
+-- Four runs of groups, one after the other, and none is left.
+use mathlib.Core.Path.{refl}
 use native.Mathlib.Omega.{arith}
 use borrow.Author.Needs.{needs}
-use lib.Dec.{T}
-use lib.Ieee.{Float}
-use Rattle.picture.proofs.Spans.{span-same}
-use Rattle.binary32.specs.Ranges.{nonneg}
-use Rattle.binary32.specs.Round.{toByte}
+use Rattle.picture.proofs.Spans.{span-join, span-ends}
 use Rattle.lanes.proofs.weigh.Statement.{statement}
 use Rattle.lanes.proofs.weigh.Tie as tie
 
-round-lanes-requires : tie.Need-round-lanes-requires
-round-lanes-requires c κs =
-    let t = c .before .before .before .before in
-    let s = t .before .before .before .before .before .before in
-    (s .pre .0, (omega (arith, t .sums .kept .0, s .pre .1 .0), (λ i h. subst (λ (x : Float). T (nonneg x)) (sym (t .sums .ensures i h)) (s .pre .1 .1 .1 i h))))
-
 returns : tie.Need-returns
 returns c =
-    let t = c .before .before in
-    let s = t .before .before .before .before .before in
-    span-same (t .round-lanes .ensures) (λ i l h. ap toByte (s .sums .ensures i h))
+    let singles = c .before .before in
+    let fours = singles .before .before .before .before in
+    let eights = fours .before .before .before .before in
+    let groups = eights .before .before .before .before in
+    let g = groups .weigh-groups .ensures in
+    let e = eights .weigh-groups2 .ensures in
+    let f = fours .weigh-groups3 .ensures in
+    let s = singles .weigh-groups4 .ensures in
+    span-ends (span-join (omega arith) (s .0 .from) (span-join (omega arith) (f .0 .from) (span-join (g .0 .from) (e .0 .from) (g .1) (e .1)) (f .1)) (s .1)) refl (omega (arith, s .0 .to, s .0 .left))
 
 pub weigh-spec : {M : Type 1} → statement M
 weigh-spec =
-    tie.close (tie.spec (λ c κs. search needs) round-lanes-requires (λ c. search needs) (λ c. search needs) returns)
+    tie.close
+    (tie.spec
+    (λ c κs. search needs)
+    (λ c κs. search needs)
+    (λ c κs. search needs)
+    (λ c κs. search needs)
+    (λ c. search needs)
+    returns)

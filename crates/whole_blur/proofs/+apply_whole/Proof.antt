@@ -1,20 +1,18 @@
 -- The cycle of calls {apply_whole}: the number of decimations falls at each call.
-use Prim.Native.Nat.{ℕ, _<_, _≤_}
+use Prim.Native.Nat.{ℕ, _<_}
 use mathlib.Core.Path.{_≡_, _∙_, sym}
-use mathlib.Core.List.{List, _++_}
+use mathlib.Core.List.{List}
 use native.Mathlib.Omega.{arith}
-use lib.ListN.{length, take, drop}
-use lib.Seq.{length-take-le}
+use lib.ListN.{length}
 use borrow.Author.Needs.{needs}
 use borrow.Fn.Kinds.{In}
 use borrow.Fn.PlainCycle.{Measures, is, falls, and}
-use Rattle.picture.specs.Sizes.{levelBytes, Sized}
-use Rattle.picture.specs.declared.LevelSize.{LevelSize}
-use Rattle.passes.specs.Forms.{ofPixels, formBytes}
-use Rattle.passes.proofs.Forms.{pixels-formed, pixel-bytes}
+use Rattle.picture.specs.Sizes.{levelBytes}
+use Rattle.passes.specs.Forms.{ofPixels}
+use Rattle.passes.proofs.Forms.{pixels-formed, pixel-bytes, as-pixels}
 use Rattle.grid_sums.specs.Sums.{wholeConvolve}
 use Rattle.grid_sums.proofs.Local.{whole-local}
-use Rattle.gaussian_blur.proofs.Step.{pixels-blurred, blurred-none, step, part-sized, part-fits, part-back}
+use Rattle.gaussian_blur.proofs.Step.{Part, pixels-blurred, blurred-none, below-sized, part-fits, part-counts, part-long, part-back, step}
 use Rattle.whole_blur.specs.Blurred.{wholeBlurred}
 use Rattle.whole_blur.proofs.apply_whole.Reads as apply-whole
 use Rattle.whole_blur.proofs.apply_whole.Kinds as kinds
@@ -27,101 +25,57 @@ use Rattle.whole_lines.proofs.whole_level.Reads as whole-level
 use Rattle.whole_blur.proofs.+apply_whole.{statement}
 use Rattle.whole_blur.proofs.+apply_whole.Tie.{close}
 
--- the bytes of a level of pixels, as those of its form
-abbrev pixelBytes : LevelSize → ℕ
-pixelBytes s = formBytes ofPixels (s .w) (s .h)
+abbrev μ : Measures 3 kinds.ps ℕ
+μ κs a = a .1 .1 .1 .0
 
-abbrev left : Measures 3 kinds.ps ℕ
-left κs a = a .1 .1 .1 .0
+-- what `apply_whole` is given at the measure t, and what its calls ask and say
+abbrev at : ℕ → In 3 kinds.ps
+at t = and 3 kinds.ps (is 3 kinds.ps μ t) apply-whole.Pre
 
-abbrev given : ℕ → In 3 kinds.ps
-given t = and 3 kinds.ps (is 3 kinds.ps left t) apply-whole.Pre
-
-abbrev callees : ℕ → lts.Claims
-callees t = (
-  whole-level.Asked,
-  whole-level.Learnt,
-  half.Asked,
-  half.Learnt,
-  bytes.Asked,
-  bytes.Learnt,
-  halve-form.Asked,
-  halve-form.Learnt,
-  and 3 kinds.ps (falls 3 kinds.ps _<_ left t) apply-whole.Pre,
-  apply-whole.Post,
-  double-form.Asked,
-  double-form.Learnt,
-)
+abbrev calls : ℕ → lts.Claims
+calls t =
+    (whole-level.Asked, whole-level.Learnt, half.Asked, half.Learnt, bytes.Asked, bytes.Learnt, halve-form.Asked, halve-form.Learnt, and 3 kinds.ps (falls 3 kinds.ps _<_ μ t) apply-whole.Pre, apply-whole.Post, double-form.Asked, double-form.Learnt)
 
 module _ (t : ℕ) where
-  -- once halved: the buffers are as long as they were, and the level below takes the first part of each
-  module _ (h : lts.After-halve-form (callees t) (given t) apply-whole.Post) where
-    abbrev begin : lts.Start (callees t) (given t) apply-whole.Post
-    begin = h .before .before .before .before .before .before .before .before .before
-
-    abbrev level : LevelSize
-    level = begin .args .s
-
-    abbrev size : lts.After-bytes (callees t) (given t) apply-whole.Post
+  -- once halved: the level below takes the first part of either buffer
+  module _ (h : lts.After-halve-form (calls t) (at t) apply-whole.Post) where
+    abbrev size : lts.After-bytes (calls t) (at t) apply-whole.Post
     size = h .before .before .before
 
-    abbrev picture : List ℕ
-    picture = h .halve-form .last .0
+    abbrev start : lts.Start (calls t) (at t) apply-whole.Post
+    start = size .before .before .before .before .before .before
 
-    abbrev scratch : List ℕ
-    scratch = h .halve-form .last .1 .0
+    abbrev Taken : List ℕ → Type 0
+    Taken = Part ofPixels (start .args .s) (size .before .half .result) (size .bytes .result)
 
-    same-bytes : pixelBytes level ≡ levelBytes level
-    same-bytes = pixel-bytes (level .w) (level .h)
+    takes : {l : List ℕ} → length l ≡ levelBytes (start .args .s) → Taken l
+    takes e =
+        let u = size .before .half .result in
+        record { sized = start .pre .1 .pictured .sized; below = size .before .half .ensures; bytes = as-pixels (u .w) (u .h) (size .bytes .ensures); all = as-pixels (start .args .s .w) (start .args .s .h) e }
 
-    picture-is : length picture ≡ pixelBytes level
-    picture-is = h .halve-form .kept .0 ∙ begin .pre .1 .pictured .exact ∙ sym same-bytes
+    picture : Taken (h .halve-form .last .0)
+    picture = takes (h .halve-form .kept .0 ∙ start .pre .1 .pictured .exact)
 
-    scratch-is : length scratch ≡ pixelBytes level
-    scratch-is = h .halve-form .kept .1 .0 ∙ begin .pre .1 .scratch-is ∙ sym same-bytes
+    scratch : Taken (h .halve-form .last .1 .0)
+    scratch = takes (h .halve-form .kept .1 .0 ∙ start .pre .1 .scratch-is)
 
-    below-is : size .bytes .result ≡ pixelBytes (size .before .half .result)
-    below-is = size .bytes .ensures ∙ sym (pixel-bytes (size .before .half .result .w) (size .before .half .result .h))
+  abbrev halved : lts.After-apply-whole (calls t) (at t) apply-whole.Post → lts.After-halve-form (calls t) (at t) apply-whole.Post
+  halved r = r .before .before .before .before .before .before .before
 
-    fits : (l : List ℕ) → length l ≡ pixelBytes level → size .bytes .result ≤ length l
-    fits = part-fits ofPixels level (begin .pre .1 .pictured .sized) (size .before .half .ensures) below-is
-
-    counts : (l : List ℕ) → length l ≡ pixelBytes level → size .bytes .result ≡ length (take (size .bytes .result) l)
-    counts l e = sym (length-take-le _ l (fits l e))
-
-    long : (l : List ℕ) → length l ≡ pixelBytes level → length (take (size .bytes .result) l) ≡ levelBytes (size .before .half .result)
-    long l e = length-take-le _ l (fits l e) ∙ size .bytes .ensures
-
-    whole : (l : List ℕ) → length l ≡ pixelBytes level → (part : List ℕ) → length part ≡ length (take (size .bytes .result) l) → length (part ++ drop (size .bytes .result) l) ≡ pixelBytes level
-    whole = part-back ofPixels level (begin .pre .1 .pictured .sized) (size .before .half .ensures) below-is
-
-    smaller : Sized (size .before .half .result)
-    smaller = part-sized ofPixels level (begin .pre .1 .pictured .sized) (size .before .half .ensures)
-
-  -- once the level below is blurred: both buffers are whole again
-  module _ (r : lts.After-apply-whole (callees t) (given t) apply-whole.Post) where
-    abbrev halved : lts.After-halve-form (callees t) (given t) apply-whole.Post
-    halved = r .before .before .before .before .before .before .before
-
-    picture-back : length (r .apply-whole .last .0 ++ drop (size halved .bytes .result) (picture halved)) ≡ pixelBytes (level halved)
-    picture-back = whole halved (picture halved) (picture-is halved) (r .apply-whole .last .0) (r .apply-whole .kept .0)
-
-    scratch-back : length (r .apply-whole .last .1 .0 ++ drop (size halved .bytes .result) (scratch halved)) ≡ pixelBytes (level halved)
-    scratch-back = whole halved (scratch halved) (scratch-is halved) (r .apply-whole .last .1 .0) (r .apply-whole .kept .1 .0)
-
-  below : lts.Need-apply-whole-requires (callees t) (given t) apply-whole.Post
+  below : lts.Need-apply-whole-requires (calls t) (at t) apply-whole.Post
   below c κs =
       let h = c .before .before .before .before .before .before in
-      let b = size h in (
-        omega (arith, begin h .pre .0, b .before .before .if1 .left),
+      let st = start h in
+      let u = size h .before .half .result in (
+        omega (arith, st .pre .0, size h .before .before .if1 .left),
         record {
-          pictured = record { sized = smaller h; exact = long h (picture h) (picture-is h) };
-          scratch-is = long h (scratch h) (scratch-is h);
-          kernel = begin h .pre .1 .kernel;
+          pictured = record { sized = below-sized (st .args .s) (st .pre .1 .pictured .sized) (size h .before .half .ensures); exact = part-long (picture h) ∙ pixel-bytes (u .w) (u .h) };
+          scratch-is = part-long (scratch h) ∙ pixel-bytes (u .w) (u .h);
+          kernel = st .pre .1 .kernel;
         },
       )
 
-  none-left : lts.Need-returns (callees t) (given t) apply-whole.Post
+  none-left : lts.Need-returns (calls t) (at t) apply-whole.Post
   unfolding wholeBlurred
   none-left c =
       let v = c .before .before .before .before in
@@ -134,43 +88,35 @@ module _ (t : ℕ) where
       ∙ blurred-none ofPixels C lc (a .mode) (a .s) z (a .picture .now) (a .n) (v .before .before .before .if1 .taken)
       ∙ pixels-blurred C lc (a .mode) (a .n) (a .s .w) (a .s .h) z (a .picture .now)
 
-  more-left : lts.Need-returns-2 (callees t) (given t) apply-whole.Post
+  more-left : lts.Need-returns-2 (calls t) (at t) apply-whole.Post
   unfolding wholeBlurred
   more-left c =
       let d = c .before .before .before .before in
       let r = d .before .before .before .before .before .before .before in
       let h = halved r in
-      let b = size h in
-      let a = begin h .args in
-      let t = b .before .half .result in
+      let a = start h .args in
+      let u = size h .before .half .result in
       let C = wholeConvolve (a .mode) (a .numerators .now) in
       let lc = whole-local (a .mode) (a .numerators .now) in
-      let z = begin h .pre .1 .pictured .sized in
-      step ofPixels C lc (a .mode) (a .s) z (a .picture .now) (a .n) t (b .bytes .result) (picture h) (r .apply-whole .last .0) (d .double-form .last .0)
-      (b .before .before .if1 .left) (b .before .half .ensures) (below-is h) (fits h (picture h) (picture-is h)) (r .apply-whole .kept .0) (h .halve-form .ensures)
-      (r .apply-whole .ensures ∙ sym (pixels-blurred C lc (a .mode) _ (t .w) (t .h) (smaller h) _)) (d .double-form .ensures)
+      let z = start h .pre .1 .pictured .sized in
+      let as-form = sym (pixels-blurred C lc (a .mode) _ (u .w) (u .h) (below-sized (a .s) z (size h .before .half .ensures)) _) in
+      step (picture h) C lc (a .mode) (a .n) (a .picture .now) (size h .before .before .if1 .left) (r .apply-whole .kept .0) (h .halve-form .ensures) (r .apply-whole .ensures ∙ as-form) (d .double-form .ensures)
       ∙ pixels-blurred C lc (a .mode) (a .n) (a .s .w) (a .s .h) z (a .picture .now)
 
 pub +apply-whole-spec : {M : Type 1} → statement M
-+apply-whole-spec = close left λ t. lts.spec (callees t) (given t) apply-whole.Post
++apply-whole-spec = close μ λ t. lts.spec (calls t) (at t) apply-whole.Post
     (λ c κs. let r = c .before .before .before .before .before .before .pre .1 in (r .pictured .sized, (r .pictured .exact, (r .scratch-is, r .kernel))))
     (λ c κs. c .before .before .before .before .pre .1 .pictured .sized)
-    (λ c κs. let st = c .before .before .before .before .before in part-sized ofPixels (st .args .s) (st .pre .1 .pictured .sized) (c .half .ensures))
-    (λ c κs.
-    let st = c .before .before .before .before .before .before .before .before in
-    let r = st .pre .1 in
-    let as-formed = sym (pixel-bytes (st .args .s .w) (st .args .s .h)) in
-    record { formed = pixels-formed; sized = r .pictured .sized; picture-length = r .pictured .exact ∙ as-formed; scratch-length = r .scratch-is ∙ as-formed })
-    (λ c. let h = c .before .before .before .before in fits t h (picture t h) (picture-is t h))
-    (λ c. let h = c .before .before .before .before .before in counts t h (picture t h) (picture-is t h))
-    (λ c. let h = c .before .before .before .before .before in fits t h (scratch t h) (scratch-is t h))
-    (λ c. let h = c .before .before .before .before .before .before in counts t h (scratch t h) (scratch-is t h))
+    (λ c κs. let st = c .before .before .before .before .before in below-sized (st .args .s) (st .pre .1 .pictured .sized) (c .half .ensures))
+    (λ c κs. let st = c .before .before .before .before .before .before .before .before in let z = st .args .s in let r = st .pre .1 in record { formed = pixels-formed; sized = r .pictured .sized; picture-length = as-pixels (z .w) (z .h) (r .pictured .exact); scratch-length = as-pixels (z .w) (z .h) (r .scratch-is) })
+    (λ c. part-fits (picture t (c .before .before .before .before))) (λ c. part-counts (picture t (c .before .before .before .before .before)))
+    (λ c. part-fits (scratch t (c .before .before .before .before .before))) (λ c. part-counts (scratch t (c .before .before .before .before .before .before)))
     (λ c. omega arith)
     (below t)
-    (λ c κs. let r = c .before .before .before .before .before .before in record { formed = pixels-formed; sized = begin t (halved t r) .pre .1 .pictured .sized; picture-length = picture-back t r; scratch-length = scratch-back t r })
+    (λ c κs. let r = c .before .before .before .before .before .before in let h = halved t r in record { formed = pixels-formed; sized = start t h .pre .1 .pictured .sized; picture-length = part-back (picture t h) (r .apply-whole .last .0) (r .apply-whole .kept .0); scratch-length = part-back (scratch t h) (r .apply-whole .last .1 .0) (r .apply-whole .kept .1 .0) })
     (λ c. search needs)
     (λ c. search needs)
     (none-left t)
-    (λ c. let d = c .before .before .before .before in let r = d .before .before .before .before .before .before .before in d .double-form .kept .0 ∙ picture-back t r ∙ same-bytes t (halved t r) ∙ sym (begin t (halved t r) .pre .1 .pictured .exact))
-    (λ c. let d = c .before .before .before .before in let r = d .before .before .before .before .before .before .before in d .double-form .kept .1 .0 ∙ scratch-back t r ∙ same-bytes t (halved t r) ∙ sym (begin t (halved t r) .pre .1 .scratch-is))
+    (λ c. let d = c .before .before .before .before in let r = d .before .before .before .before .before .before .before in let h = halved t r in d .double-form .kept .0 ∙ part-back (picture t h) (r .apply-whole .last .0) (r .apply-whole .kept .0) ∙ sym (as-pixels (start t h .args .s .w) (start t h .args .s .h) (start t h .pre .1 .pictured .exact)))
+    (λ c. let d = c .before .before .before .before in let r = d .before .before .before .before .before .before .before in let h = halved t r in d .double-form .kept .1 .0 ∙ part-back (scratch t h) (r .apply-whole .last .1 .0) (r .apply-whole .kept .1 .0) ∙ sym (as-pixels (start t h .args .s .w) (start t h .args .s .h) (start t h .pre .1 .scratch-is)))
     (more-left t)

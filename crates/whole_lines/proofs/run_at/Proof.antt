@@ -5,7 +5,7 @@ use native.Mathlib.Nat.{mod-lt}
 use native.Mathlib.Omega.{arith}
 use borrow.Author.Needs.{needs}
 use Rattle.picture.proofs.Sizes.{room-is}
-use Rattle.grid_sums.proofs.Sums.{few-taps}
+use Rattle.passes.proofs.Taps.{few-taps}
 use Rattle.whole_lines.proofs.Runs.{element, edge-run, inner-ends, inner-run}
 use Rattle.whole_lines.proofs.run_at.Statement.{statement}
 use Rattle.whole_lines.proofs.run_at.Tie as tie

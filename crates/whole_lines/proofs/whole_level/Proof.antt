@@ -1,24 +1,18 @@
 -- Rows to scratch and columns back are the pass of a level.
-use mathlib.Core.Path.{_≡_, _∙_, sym}
-use Prim.Native.Nat.{ℕ, _*_}
+use mathlib.Core.Path.{_∙_}
+use Prim.Native.Nat.{_*_}
 use native.Mathlib.Nat.{one-mul}
 use native.Mathlib.Omega.{arith}
 use borrow.Author.Needs.{needs}
 use denote.Ref.{now}
-use Rattle.picture.specs.Sizes.{levelBytes}
-use Rattle.picture.specs.declared.LevelSize.{LevelSize}
-use Rattle.passes.specs.Forms.{ofPixels, formBytes}
+use Rattle.passes.specs.Forms.{ofPixels}
 use Rattle.passes.specs.Lines.{Lines}
-use Rattle.passes.proofs.Forms.{pixel-bytes, pixels-formed}
+use Rattle.passes.proofs.Forms.{pixels-formed, as-pixels}
 use Rattle.passes.proofs.Lines.{lines-fit, rows-are, cols-are, level-is}
 use Rattle.grid_sums.specs.Sums.{wholeConvolve}
 use Rattle.grid_sums.proofs.Local.{whole-local}
 use Rattle.whole_lines.proofs.whole_level.Statement.{statement}
 use Rattle.whole_lines.proofs.whole_level.Tie as tie
-
--- a level of pixels has the bytes of that form
-formed : (s : LevelSize) (n : ℕ) → n ≡ levelBytes s → n ≡ formBytes ofPixels (s .w) (s .h)
-formed s n e = e ∙ sym (pixel-bytes (s .w) (s .h))
 
 whole-lines-requires : tie.Need-whole-lines-requires
 whole-lines-requires c κs =
@@ -27,7 +21,7 @@ whole-lines-requires c κs =
     let z = s .args .s in
     let w = t .before .width .result in
     let h = t .height .result in
-    let rows : Lines (now (s .args .picture)) (now (s .args .scratch)) (1 * h) w w 4 = rows-are ofPixels pixels-formed z (s .pre .0) (t .before .width .ensures) (t .height .ensures) (formed z _ (s .pre .1 .0)) (formed z _ (s .pre .1 .1 .0)) in
+    let rows : Lines (now (s .args .picture)) (now (s .args .scratch)) (1 * h) w w 4 = rows-are ofPixels pixels-formed z (s .pre .0) (t .before .width .ensures) (t .height .ensures) (as-pixels (z .w) (z .h) (s .pre .1 .0)) (as-pixels (z .w) (z .h) (s .pre .1 .1 .0)) in
     record { kernel = s .pre .1 .1 .1; lined = rw (one-mul h) at rows }
 
 -- where the function starts, from the rows' call
@@ -49,7 +43,7 @@ whole-lines-requires-2 c κs =
     let z = s .args .s in
     record {
       kernel = s .pre .1 .1 .1;
-      lined = cols-are ofPixels pixels-formed z (s .pre .0) (t .before .width .ensures) (t .height .ensures) (formed z _ (r .whole-lines .kept .1 .0 ∙ s .pre .1 .1 .0)) (formed z _ (s .pre .1 .0));
+      lined = cols-are ofPixels pixels-formed z (s .pre .0) (t .before .width .ensures) (t .height .ensures) (as-pixels (z .w) (z .h) (r .whole-lines .kept .1 .0 ∙ s .pre .1 .1 .0)) (as-pixels (z .w) (z .h) (s .pre .1 .0));
     }
 
 returns : tie.Need-returns

@@ -1,0 +1,3 @@
+-- Laws of a channel divided by its alpha.
+pub mod Scales
+pub mod Near
