@@ -1,11 +1,12 @@
--- Laws of groups of lanes: what a group asks and makes, of all lanes.
+-- Laws of groups of lanes: what a group asks and makes, of all lanes; and of weights that are lent as so many.
 use mathlib.Core.Path.{_≡_, sym, ap, subst, _∙_}
 use mathlib.Core.List.{List}
 use Prim.Native.Nat.{ℕ, _+_, _-_, _≤_, _<_}
 use native.Mathlib.Omega.{arith}
 use lib.Dec.{T}
 use lib.Ieee.{Float}
-use lib.ListN.{length}
+use lib.ListN.{length, take}
+use lib.Seq.{take-all}
 use Rattle.picture.specs.Spans.{Span, Run}
 use Rattle.picture.proofs.Spans.{span-at}
 use Rattle.binary32.specs.Ranges.{nonneg}
@@ -35,3 +36,10 @@ module _ (line weights : List Float) (a step d size : ℕ) where
         below = λ j l. r .below j (omega arith);
         above = λ j l. r .above j (omega arith);
       }
+
+-- as many weights as there are
+pub as-many : (weights : List Float) {k : ℕ} → length weights ≡ k → take k weights ≡ weights
+as-many weights {k} e = take-all k weights (omega (arith, e))
+
+pub counted : (weights : List Float) {k : ℕ} → length weights ≡ k → k ≡ length (take k weights)
+counted weights e = rw (as-many weights e) (sym e)

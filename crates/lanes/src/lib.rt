@@ -119,6 +119,29 @@ fn weigh_groups(
     i
 }
 
+// Of n lanes all that fill groups as large as registers hold: answers the first lane that is left. Three or five weights are lent as so many,
+// a number that the compiler knows, so that the loop over them is laid out flat; with more, x86-64 has too few registers to gain by it.
+fn weigh_large(
+    dst: &mut [u8],
+    o: usize,
+    n: usize,
+    line: &[f32],
+    a: usize,
+    step: usize,
+    weights: &[f32],
+) -> usize
+    requires { ⌜ o + n ≤ length (now dst) ⌝ ∗ ⌜ Weighable (now line) (now weights) a step n ⌝ }
+    ensures { λ r. ⌜ Grouped 0 n groupRoom r × Span 0 (now (dst .entry)) (now (dst .exit)) o 0 r (laneByte (now (line .entry)) a step (now (weights .entry))) ⌝ }
+{
+    if weights.len() == 3 {
+        return weigh_groups(dst, o, 0, n, GROUP, line, a, step, &weights[..3]);
+    }
+    if weights.len() == 5 {
+        return weigh_groups(dst, o, 0, n, GROUP, line, a, step, &weights[..5]);
+    }
+    weigh_groups(dst, o, 0, n, GROUP, line, a, step, weights)
+}
+
 // n lanes of line from a on, summed under all weights, as bytes into dst from o on: in groups as large as registers hold, and what is left in
 // smaller ones, down to single lanes.
 pub fn weigh(
@@ -133,7 +156,7 @@ pub fn weigh(
     requires { ⌜ o + n ≤ length (now dst) ⌝ ∗ ⌜ Weighable (now line) (now weights) a step n ⌝ }
     ensures { λ _. ⌜ Run 0 (now (dst .entry)) (now (dst .exit)) o n (laneByte (now (line .entry)) a step (now (weights .entry))) ⌝ }
 {
-    let many = weigh_groups(dst, o, 0, n, GROUP, line, a, step, weights);
+    let many = weigh_large(dst, o, n, line, a, step, weights);
     let some = weigh_groups(dst, o, many, n, 8, line, a, step, weights);
     let few = weigh_groups(dst, o, some, n, 4, line, a, step, weights);
     weigh_groups(dst, o, few, n, 1, line, a, step, weights);

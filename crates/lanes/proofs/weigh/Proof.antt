@@ -12,10 +12,10 @@ returns c =
     let fours = singles .before .before .before .before in
     let eights = fours .before .before .before .before in
     let groups = eights .before .before .before .before in
-    let g = groups .weigh-groups .ensures in
-    let e = eights .weigh-groups2 .ensures in
-    let f = fours .weigh-groups3 .ensures in
-    let s = singles .weigh-groups4 .ensures in
+    let g = groups .weigh-large .ensures in
+    let e = eights .weigh-groups .ensures in
+    let f = fours .weigh-groups2 .ensures in
+    let s = singles .weigh-groups3 .ensures in
     span-ends (span-join (omega arith) (s .0 .from) (span-join (omega arith) (f .0 .from) (span-join (g .0 .from) (e .0 .from) (g .1) (e .1)) (f .1)) (s .1)) refl (omega (arith, s .0 .to, s .0 .left))
 
 pub weigh-spec : {M : Type 1} → statement M
