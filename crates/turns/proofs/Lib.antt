@@ -1,0 +1,2 @@
+-- Laws of lines that are turned, for the proofs of the crates above.
+pub mod Turned

@@ -1,0 +1,61 @@
+// Lines turned: the first element of each line, then the second of each, up to the last, so that short lines become few long ones.
+ghost use mathlib.Core.Path.{_≡_};
+ghost use Prim.Native.Nat.{ℕ, _+_, _*_, _/_, _%_, _≤_, _<_};
+ghost use lib.ListN.{length, getD};
+ghost use Rattle.picture.specs.Spans.{Run};
+ghost use Rattle.turns.specs.Turned.{turned, Turnable};
+
+// Whether it pays to turn lines, to pass over them as one, and to turn them back: they are short, and so many that what a pass costs at each
+// line's ends is more than the two turns. Nothing rests on it but time: the bytes are the same either way.
+pub fn pays(len: usize, lines: usize) -> bool
+{
+    if len < 8 { 64 <= lines } else { false }
+}
+
+// One element of `size` bytes, from p on, into dst from q on.
+fn copy_element(src: &[u8], p: usize, dst: &mut [u8], q: usize, size: usize)
+    requires { ⌜ p + size ≤ length (now src) ⌝ ∗ ⌜ q + size ≤ length (now dst) ⌝ }
+    ensures { λ _. ⌜ Run 0 (now (dst .entry)) (now (dst .exit)) q size (λ k. getD (now (src .entry)) (p + k) 0) ⌝ }
+{
+    let mut k = 0;
+    while k < size {
+        dst[q + k] = src[p + k];
+        k += 1;
+    }
+}
+
+// `count` elements that stand `step` bytes apart, from p on, one after the other into dst from q on.
+fn gather(src: &[u8], p: usize, step: usize, dst: &mut [u8], q: usize, count: usize, size: usize)
+    requires { ⌜ ((y : ℕ) → y < count → p + y * step + size ≤ length (now src)) ⌝ ∗ ⌜ q + count * size ≤ length (now dst) ⌝ }
+    ensures { λ _. ⌜ Run 0 (now (dst .entry)) (now (dst .exit)) q (count * size) (λ j. getD (now (src .entry)) (p + j / size * step + j % size) 0) ⌝ }
+{
+    let mut y = 0;
+    while y < count {
+        copy_element(src, p + y * step, dst, q + y * size, size);
+        y += 1;
+    }
+}
+
+// `lines` lines of len elements of `size` bytes each, turned.
+fn turn_elements(src: &[u8], dst: &mut [u8], lines: usize, len: usize, size: usize)
+    requires { ⌜ Turnable (now src) (now dst) lines len size ⌝ }
+    ensures { λ _. ⌜ now (dst .exit) ≡ turned (now (src .entry)) lines len size ⌝ }
+{
+    let mut x = 0;
+    while x < len {
+        gather(src, x * size, len * size, dst, x * (lines * size), lines, size);
+        x += 1;
+    }
+}
+
+// The same. Four bytes, a pixel, are a number that the compiler knows, so that a pixel is copied at once.
+pub fn turn(src: &[u8], dst: &mut [u8], lines: usize, len: usize, size: usize)
+    requires { ⌜ Turnable (now src) (now dst) lines len size ⌝ }
+    ensures { λ _. ⌜ now (dst .exit) ≡ turned (now (src .entry)) lines len size ⌝ }
+{
+    if size == 4 {
+        turn_elements(src, dst, lines, len, 4);
+    } else {
+        turn_elements(src, dst, lines, len, size);
+    }
+}
