@@ -159,23 +159,44 @@ pub fn convolve_lines(
     }
 }
 
-// Lines that are a level's rows. Rows of one element are one line of one element, of all their bytes: so few lanes at a time are not worth a block.
-fn convolve_rows(
-    src: &[u8],
-    dst: &mut [u8],
+// Short lines, and many of them: turned, convolved as one line, and turned back. What lies in picture is room for the one line.
+fn convolve_turned(
+    picture: &mut [u8],
+    scratch: &mut [u8],
     w: usize,
     lines: usize,
     lanes: usize,
     weights: &[f32],
     mode: EdgeMode,
 )
-    requires { ⌜ ConvolveLines (now src) (now dst) (now weights) lines w lanes ⌝ }
-    ensures { λ _. ⌜ now (dst .exit) ≡ passed (convolve mode (now (weights .entry))) (now (src .entry)) lines w w lanes ⌝ }
+    requires { ⌜ ConvolveLines (now picture) (now scratch) (now weights) lines w lanes ⌝ }
+    ensures { λ _. ⌜ now (scratch .exit) ≡ passed (convolve mode (now (weights .entry))) (now (picture .entry)) lines w w lanes ⌝ }
+{
+    turns::turn(picture, scratch, lines, w, lanes);
+    convolve_lines(scratch, picture, 1, w, lines * lanes, weights, mode);
+    turns::turn(picture, scratch, w, lines, lanes);
+}
+
+// Lines that are a level's rows. Rows of one element are one line of one element, of all their bytes: so few lanes at a time are not worth a
+// block.
+fn convolve_rows(
+    picture: &mut [u8],
+    scratch: &mut [u8],
+    w: usize,
+    lines: usize,
+    lanes: usize,
+    weights: &[f32],
+    mode: EdgeMode,
+)
+    requires { ⌜ ConvolveLines (now picture) (now scratch) (now weights) lines w lanes ⌝ }
+    ensures { λ _. ⌜ now (scratch .exit) ≡ passed (convolve mode (now (weights .entry))) (now (picture .entry)) lines w w lanes ⌝ }
 {
     if w == 1 {
-        convolve_lines(src, dst, 1, 1, lines * lanes, weights, mode);
+        convolve_lines(picture, scratch, 1, 1, lines * lanes, weights, mode);
+    } else if turns::pays(w, lines) {
+        convolve_turned(picture, scratch, w, lines, lanes, weights, mode);
     } else {
-        convolve_lines(src, dst, lines, w, lanes, weights, mode);
+        convolve_lines(picture, scratch, lines, w, lanes, weights, mode);
     }
 }
 

@@ -1,2 +1,3 @@
 -- Laws of lines that are turned, for the proofs of the crates above.
-pub mod Turned
+mod Turned
+pub mod Lines

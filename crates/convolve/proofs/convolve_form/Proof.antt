@@ -29,24 +29,24 @@ convolve-rows-requires c κs =
 
 mul-convolve-lines : tie.Need-mul-convolve-lines
 mul-convolve-lines c =
-    let t = c .before .before .before .before .before .before .before .before .before in
+    let t = c .before .before .before .before .before .before .before .before .before .before .before in
     let s = start t in
     omega (arith, lines-fit (s .args .form) (s .pre .0) (s .args .s) (s .pre .1 .0) (t .before .width .ensures) (t .height .ensures))
 
 convolve-lines-requires : tie.Need-convolve-lines-requires
 convolve-lines-requires c κs =
-    let r = c .before .before .before .before .before in
+    let r = c .before .before .before .before .before .before .before in
     let t = r .before .before .before .before in
     let s = start t in
     record {
       kernel = s .pre .1 .1 .1 .1;
-      lined = cols-are (s .args .form) (s .pre .0) (s .args .s) (s .pre .1 .0) (t .before .width .ensures) (t .height .ensures) (r .convolve-rows .kept .1 .0 ∙ s .pre .1 .1 .1 .0) (s .pre .1 .1 .0);
+      lined = cols-are (s .args .form) (s .pre .0) (s .args .s) (s .pre .1 .0) (t .before .width .ensures) (t .height .ensures) (r .convolve-rows .kept .1 .0 ∙ s .pre .1 .1 .1 .0) (r .convolve-rows .kept .0 ∙ s .pre .1 .1 .0);
     }
 
 returns : tie.Need-returns
 returns c =
     let q = c .before .before in
-    let r = q .before .before .before .before .before .before in
+    let r = q .before .before .before .before .before .before .before .before in
     let t = r .before .before .before .before in
     let s = start t in
     let a = s .args in

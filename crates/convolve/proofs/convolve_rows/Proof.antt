@@ -1,4 +1,4 @@
--- Rows of one element become what one line of one element does.
+-- Rows of one element become what one line of one element does, and short ones what they do turned.
 use mathlib.Core.Path.{_≡_, sym, ap, _∙_}
 use Prim.Native.Nat.{ℕ, _*_}
 use native.Mathlib.Nat.{one-mul, mul-pos}
@@ -18,15 +18,15 @@ narrow w lines lanes n e l = l ∙ ap (λ (k : ℕ). lines * k) (ap (λ (k : ℕ
 
 mul-convolve-lines : tie.Need-mul-convolve-lines
 mul-convolve-lines c =
-    let s = c .before .before .before .before .before in
-    omega (arith, narrow (s .args .w) (s .args .lines) (s .args .lanes) _ (c .before .if1 .taken) (s .pre .lined .src-size), s .good .0 .0)
+    let s = c .before .before .before .before .before .before in
+    omega (arith, narrow (s .args .w) (s .args .lines) (s .args .lanes) _ (c .before .before .if1 .taken) (s .pre .lined .src-size), s .good .0 .0)
 
 convolve-lines-requires : tie.Need-convolve-lines-requires
 convolve-lines-requires c κs =
-    let s = c .before .before .before .before .before in
+    let s = c .before .before .before .before .before .before in
     let p = s .pre .lined in
     let size = narrow (s .args .w) (s .args .lines) (s .args .lanes) in
-    let e = c .before .if1 .taken in
+    let e = c .before .before .if1 .taken in
     record {
       kernel = s .pre .kernel;
       lined = record {
@@ -42,13 +42,10 @@ convolve-lines-requires c κs =
 returns : tie.Need-returns
 returns c =
     let t = c .before .before in
-    let s = t .before .before .before .before .before .before in
+    let s = t .before .before .before .before .before .before .before in
     let a = s .args in
-    let e : a .w ≡ 1 = t .before .before .if1 .taken in
-    rw e (t .convolve-lines .ensures ∙ sym (one-wide (convolve (a .mode) (now (a .weights))) (convolve-local (a .mode) (now (a .weights))) (now (a .src)) (a .lines) (a .lanes)))
-
-returns-2 : tie.Need-returns-2
-returns-2 c = c .before .before .convolve-lines2 .ensures
+    let e : a .w ≡ 1 = t .before .before .before .if1 .taken in
+    rw e (t .convolve-lines .ensures ∙ sym (one-wide (convolve (a .mode) (now (a .weights))) (convolve-local (a .mode) (now (a .weights))) (now (a .picture)) (a .lines) (a .lanes)))
 
 pub convolve-rows-spec : {M : Type 1} → statement M
 convolve-rows-spec =
@@ -57,7 +54,14 @@ convolve-rows-spec =
     mul-convolve-lines
     convolve-lines-requires
     (λ c κs. search needs)
+    (λ c κs. search needs)
+    (λ c κs. search needs)
+    (λ c. search needs)
     (λ c. search needs)
     returns
     (λ c. search needs)
-    returns-2)
+    (λ c. search needs)
+    (λ c. search needs)
+    (λ c. search needs)
+    (λ c. search needs)
+    (λ c. search needs))
