@@ -1,21 +1,22 @@
--- Lines that stay as long are turned, passed over as one line, and turned back: what each step asks, and that the three are the pass over the lines.
+-- Lines that stay as long are turned, passed over as one line, and turned back: what the one line is, and that the three are the pass over the lines.
 use mathlib.Core.Path.{_≡_, _∙_, sym}
 use mathlib.Core.List.{List}
-use Prim.Native.Nat.{ℕ, _*_}
+use Prim.Native.Nat.{ℕ, _*_, _≤_}
 use native.Mathlib.Nat.{mul-pos}
 use native.Mathlib.Omega.{arith}
 use lib.ListN.{length}
+use Rattle.picture.proofs.Spans.{within}
 use Rattle.passes.specs.Lines.{Lines}
 use Rattle.passes.specs.Passes.{Pass}
 use Rattle.passes.specs.Written.{passed}
 use Rattle.passes.proofs.Local.{Local}
-use Rattle.turns.specs.Turned.{turned, Turnable}
+use Rattle.turns.specs.Turned.{turned}
 use Rattle.turns.proofs.Turned.{turned-size, turned-rows}
 
 module _ {src dst : List ℕ} {lines len size : ℕ} (p : Lines src dst lines len len size) where
-  pub there : Turnable src dst lines len size
-  there =
-      record { some = p .some; len-low = p .len-low; size-low = p .stride-low; src-size = p .src-size; dst-size = p .dst-size ∙ turned-size lines len size }
+  -- an element of the one line is no longer than all lines
+  pub one-fits : lines * size ≤ length src
+  one-fits = omega (arith, within 0 (lines * size) 0 len (p .len-low), p .src-size, turned-size lines len size)
 
   pub as-one : {a b : List ℕ} → length a ≡ length dst → length b ≡ length src → Lines a b 1 len len (lines * size)
   as-one {a} {b} ea eb =
@@ -27,10 +28,6 @@ module _ {src dst : List ℕ} {lines len size : ℕ} (p : Lines src dst lines le
         src-size = omega (arith, ea, p .dst-size, turned-size lines len size);
         dst-size = omega (arith, eb, p .src-size, turned-size lines len size);
       }
-
-  pub back : {a b : List ℕ} → length a ≡ length src → length b ≡ length dst → Turnable a b len lines size
-  back ea eb =
-      record { some = p .len-low; len-low = p .some; size-low = p .stride-low; src-size = ea ∙ p .src-size ∙ turned-size lines len size; dst-size = eb ∙ p .dst-size }
 
   pub turned-pass : (f : Pass) → Local f → {a b c : List ℕ} → a ≡ turned src lines len size → b ≡ passed f a 1 len len (lines * size) → c ≡ turned b len lines size → c ≡ passed f src lines len len size
   turned-pass f l ea eb ec = ec ∙ rw (eb, ea) (sym (turned-rows f l src lines len len size (p .len-low) (p .len-low) (p .stride-low)))

@@ -14,7 +14,7 @@ use Rattle.passes.specs.Written.{lane, passed}
 use Rattle.passes.proofs.Local.{Local}
 use Rattle.passes.proofs.Planes.{at, length-passed}
 use Rattle.passes.proofs.Written.{passed-at}
-use Rattle.turns.specs.Turned.{turned, Turnable}
+use Rattle.turns.specs.Turned.{turned}
 
 -- the bytes of lines, counted the other way
 pub turned-size : (lines len size : ℕ) → lines * (len * size) ≡ len * (lines * size)

@@ -7,8 +7,7 @@ ghost use Rattle.turns.specs.Turned.{turned, Turnable};
 
 // Whether it pays to turn lines, to pass over them as one, and to turn them back: they are short, and so many that what a pass costs at each
 // line's ends is more than the two turns. Nothing rests on it but time: the bytes are the same either way.
-pub fn pays(len: usize, lines: usize) -> bool
-{
+pub fn pays(len: usize, lines: usize) -> bool {
     if len < 8 { 64 <= lines } else { false }
 }
 
@@ -43,7 +42,15 @@ fn turn_elements(src: &[u8], dst: &mut [u8], lines: usize, len: usize, size: usi
 {
     let mut x = 0;
     while x < len {
-        gather(src, x * size, len * size, dst, x * (lines * size), lines, size);
+        gather(
+            src,
+            x * size,
+            len * size,
+            dst,
+            x * (lines * size),
+            lines,
+            size,
+        );
         x += 1;
     }
 }

@@ -116,6 +116,42 @@ fn whole_lines(
     }
 }
 
+// Short rows, and many of them: turned, convolved as one line, and turned back. What lies in picture is room for the one line.
+fn whole_turned(
+    picture: &mut [u8],
+    scratch: &mut [u8],
+    w: usize,
+    h: usize,
+    numerators: &[u32],
+    mode: EdgeMode,
+)
+    requires { ⌜ WholeLines (now picture) (now scratch) (now numerators) h w 4 ⌝ }
+    ensures { λ _. ⌜ now (scratch .exit) ≡ passed (wholeConvolve mode (now (numerators .entry))) (now (picture .entry)) h w w 4 ⌝ }
+{
+    turns::turn(picture, scratch, h, w, 4);
+    whole_lines(scratch, picture, 1, w, h * 4, numerators, mode);
+    turns::turn(picture, scratch, w, h, 4);
+}
+
+// The rows of a level, convolved into scratch.
+fn whole_rows(
+    picture: &mut [u8],
+    scratch: &mut [u8],
+    w: usize,
+    h: usize,
+    numerators: &[u32],
+    mode: EdgeMode,
+)
+    requires { ⌜ WholeLines (now picture) (now scratch) (now numerators) h w 4 ⌝ }
+    ensures { λ _. ⌜ now (scratch .exit) ≡ passed (wholeConvolve mode (now (numerators .entry))) (now (picture .entry)) h w w 4 ⌝ }
+{
+    if turns::pays(w, h) {
+        whole_turned(picture, scratch, w, h, numerators, mode);
+    } else {
+        whole_lines(picture, scratch, h, w, 4, numerators, mode);
+    }
+}
+
 // A level convolved: rows to scratch, then columns back.
 pub fn whole_level(
     picture: &mut [u8],
@@ -129,6 +165,6 @@ pub fn whole_level(
 {
     let w = s.width();
     let h = s.height();
-    whole_lines(picture, scratch, h, w, 4, numerators, mode);
+    whole_rows(picture, scratch, w, h, numerators, mode);
     whole_lines(scratch, picture, 1, h, w * 4, numerators, mode);
 }

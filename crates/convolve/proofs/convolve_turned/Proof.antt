@@ -1,13 +1,11 @@
 -- Turned, convolved as one line and turned back are the pass over the lines.
-use mathlib.Core.Path.{_≡_, refl, _∙_}
-use Prim.Native.Nat.{_*_}
+use mathlib.Core.Path.{refl}
 use native.Mathlib.Omega.{arith}
 use borrow.Author.Needs.{needs}
 use denote.Ref.{now}
-use Rattle.picture.proofs.Spans.{within}
 use Rattle.passes.specs.Passes.{convolve}
 use Rattle.passes.proofs.Local.{convolve-local}
-use Rattle.turns.proofs.Lines.{there, as-one, back, turned-pass}
+use Rattle.turns.proofs.Lines.{one-fits, as-one, turned-pass}
 use Rattle.convolve.proofs.convolve_turned.Statement.{statement}
 use Rattle.convolve.proofs.convolve_turned.Tie as tie
 
@@ -18,21 +16,13 @@ start t = t .before .before .before .before .before .before
 mul-convolve-lines : tie.Need-mul-convolve-lines
 mul-convolve-lines c =
     let s = start (c .before .before .before .before) in
-    let p = s .pre .lined in
-    omega (arith, within 0 (s .args .lines * s .args .lanes) 0 (s .args .w) (p .len-low), there p .dst-size, s .good .1 .0 .0)
+    omega (arith, one-fits (s .pre .lined), s .good .0 .0)
 
 convolve-lines-requires : tie.Need-convolve-lines-requires
 convolve-lines-requires c κs =
     let t = c .before .before .before .before in
     let s = start t in
     record { kernel = s .pre .kernel; lined = as-one (s .pre .lined) (t .turn .kept .1 .0) refl }
-
-turn-requires-2 : tie.Need-turn-requires-2
-turn-requires-2 c κs =
-    let l = c .before .before .before .before in
-    let t = l .before .before .before .before .before in
-    let s = start t in
-    back (s .pre .lined) (l .convolve-lines .kept .1 .0) (t .turn .kept .1 .0)
 
 returns : tie.Need-returns
 returns c =
@@ -47,10 +37,10 @@ pub convolve-turned-spec : {M : Type 1} → statement M
 convolve-turned-spec =
     tie.close
     (tie.spec
-    (λ c κs. there (c .before .before .before .before .before .pre .lined))
+    (λ c κs. search needs)
     mul-convolve-lines
     convolve-lines-requires
-    turn-requires-2
+    (λ c κs. search needs)
     (λ c. search needs)
     (λ c. search needs)
     returns)
