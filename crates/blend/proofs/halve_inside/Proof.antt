@@ -12,7 +12,7 @@ halve-inside-spec =
     (λ c. rw (c .before .before .before .before .if1 .taken) (c .before .before .halve-pixel .ensures))
     (λ c κs. rw (c .before .if2 .taken) at (c .before .before .before .before .before .pre))
     (λ c. search needs)
-    (λ c. rw (c .before .before .before .before .if2 .taken) (c .before .before .halve-lanes .ensures))
+    (λ c. rw (c .before .before .before .before .if2 .taken) (c .before .before .halve-byte .ensures))
     (λ c κs. search needs)
     (λ c. search needs)
     (λ c. search needs))
