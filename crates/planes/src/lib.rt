@@ -54,21 +54,21 @@ fn lay(src: &[u8], from: usize, end: usize, dst: &mut [u8], to: usize)
 }
 
 // Takes 80 pixels apart, those from m on, and lays 64 bytes in each plane, plane after plane; the first two planes are 16 bytes ahead of the others.
-fn split_block(src: &[u8], dst: &mut [u8], n: usize, m: usize)
-    requires { ⌜ Counted n (now src) (now dst) ⌝ ∗ ⌜ m + 80 ≤ n ⌝ ∗ ⌜ InPlanes n m 0 (now src) (now dst) ⌝ }
+fn split_block(src: &[u8], dst: &mut [u8], parts: &mut [u8], n: usize, m: usize)
+    requires { ⌜ Counted n (now src) (now dst) ⌝ ∗ ⌜ length (now parts) ≡ 320 ⌝ ∗ ⌜ m + 80 ≤ n ⌝ ∗ ⌜ InPlanes n m 0 (now src) (now dst) ⌝ }
     ensures { λ _. ⌜ InPlanes n (m + 64) 0 (now (src .entry)) (now (dst .exit)) ⌝ }
 {
-    let mut parts = [0u8; 320];
-    take_apart(&mut parts, src, m);
-    lay(&parts, 16, 80, dst, m + 16);
-    lay(&parts, 96, 160, dst, n + m + 16);
-    lay(&parts, 160, 224, dst, 2 * n + m);
-    lay(&parts, 240, 304, dst, 3 * n + m);
+    take_apart(parts, src, m);
+    lay(parts, 16, 80, dst, m + 16);
+    lay(parts, 96, 160, dst, n + m + 16);
+    lay(parts, 160, 224, dst, 2 * n + m);
+    lay(parts, 240, 304, dst, 3 * n + m);
 }
 
-// Takes a picture apart by blocks, from pixel 48 on; answers up to where all pixels are in the planes.
-fn split_blocks(src: &[u8], dst: &mut [u8], n: usize) -> usize
-    requires { ⌜ Counted n (now src) (now dst) ⌝ }
+// Takes a picture apart by blocks, from pixel 48 on; answers up to where all pixels are in the planes. All blocks are lent the same parts:
+// with parts of its own for each, a block takes the compiler's code for AVX2 more steps.
+fn split_blocks(src: &[u8], dst: &mut [u8], parts: &mut [u8], n: usize) -> usize
+    requires { ⌜ Counted n (now src) (now dst) ⌝ ∗ ⌜ length (now parts) ≡ 320 ⌝ }
     ensures { λ r. ⌜ (r ≤ n) × Carried (pixelwise 1 4) (pixelwise n 1) (now (src .entry)) (now (dst .exit)) (4 * r) ⌝ }
 {
     if n < 64 {
@@ -90,7 +90,7 @@ fn split_blocks(src: &[u8], dst: &mut [u8], n: usize) -> usize
     );
     let mut m = 48;
     while m + 80 <= n {
-        split_block(src, dst, n, m);
+        split_block(src, dst, parts, n, m);
         m += 64;
     }
     m
@@ -101,8 +101,9 @@ pub fn split(src: &[u8], dst: &mut [u8], size: FullSize)
     requires { ⌜ Converts size (now src) (now dst) ⌝ }
     ensures { λ _. ⌜ now (dst .exit) ≡ planar (size .w) (size .h) (now (src .entry)) ⌝ }
 {
+    let mut parts = [0u8; 320];
     let n = size.bytes() / 4;
-    let m = split_blocks(src, dst, n);
+    let m = split_blocks(src, dst, &mut parts, n);
     carry(
         src,
         Steps {
