@@ -5,7 +5,8 @@ use native.Mathlib.Omega.{arith}
 use borrow.Author.Needs.{needs}
 use Rattle.picture.specs.Build.{build}
 use Rattle.grading.proofs.Scanned.{passes-at}
-use Rattle.pam_convert.specs.Straight.{outward, anewAt}
+use Rattle.unmultiply.specs.Outward.{outward}
+use Rattle.pam_convert.specs.Straight.{anewAt}
 use Rattle.pam_convert.proofs.Anew.{all-anew}
 use Rattle.pam_convert.proofs.bodies.write_body.Statement.{statement}
 use Rattle.pam_convert.proofs.bodies.write_body.Tie as tie
