@@ -24,3 +24,8 @@ outward-byte c zero l = omega arith
 outward-byte c (suc a) l =
     let some : 0 < suc a = omega arith in
     rw (ne-eqb (suc a) 0 (not-none c (suc a) some)) (div-lt-iff-lt-mul {x = 255 * c + suc a / 2} some .1 (omega arith))
+
+-- under alpha 255 a channel is as it was
+pub outward-opaque : (c : ℕ) → outward c 255 ≡ c
+unfolding outward
+outward-opaque c = omega arith
