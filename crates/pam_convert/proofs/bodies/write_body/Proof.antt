@@ -1,5 +1,5 @@
 -- The opaque pixels in front and the rest are the picture outward.
-use mathlib.Core.Path.{_≡_}
+use mathlib.Core.Path.{_≡_, refl}
 use mathlib.Core.Bool.{true}
 use Prim.Native.Nat.{_%_}
 use native.Mathlib.Omega.{arith}
@@ -24,7 +24,7 @@ convert-requires c κs =
     let rest =
     left true (copy .copy-opaque .ensures) (pixels s) (same s)
     (λ e i l. passes-at (s .args .picture .now) (s .args .size .w) (s .args .size .h) (s .pre .0 .scan) i (omega (arith, s .pre .0 .whole .exact))) in
-    (rest .0, (rest .1, rest .2))
+    (rest .0, (rest .1, λ e. rest .2 refl))
 
 returns : tie.Need-returns
 returns c =
