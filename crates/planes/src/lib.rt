@@ -2,12 +2,12 @@
 use halves::apart::take_apart;
 use halves::together::put_together;
 use picture::FullSize;
+use pixels::copy_run;
 ghost use mathlib.Core.Path.{_≡_};
 ghost use Rattle.picture.specs.Refusal.{firstOf};
 ghost use Rattle.picture.specs.Answer.{answered};
-ghost use Prim.Native.Nat.{_+_, _-_, _*_, _≤_, _<_};
-ghost use lib.ListN.{length, getD};
-ghost use Rattle.picture.specs.Spans.{Run};
+ghost use Prim.Native.Nat.{_+_, _*_, _≤_, _<_};
+ghost use lib.ListN.{length};
 ghost use Rattle.planes.specs.Planar.{planar, interleaved, Converts};
 ghost use Rattle.planes.specs.Places.{Carried, Carries, withPixel, pixelwise, Counted, InPlanes};
 ghost use Rattle.planes.specs.Outcome.{convertChecks, toPlanesOutcome, fromPlanesOutcome};
@@ -41,28 +41,16 @@ fn carry(src: &[u8], s: Steps, dst: &mut [u8], d: Steps, from: usize, to: usize)
     }
 }
 
-// Lays the bytes from `from` up to `end` over those from `to` on.
-fn lay(src: &[u8], from: usize, end: usize, dst: &mut [u8], to: usize)
-    requires { ⌜ from ≤ end ⌝ ∗ ⌜ end ≤ length (now src) ⌝ ∗ ⌜ length (now src) ≤ 320 ⌝ ∗ ⌜ to + end ≤ length (now dst) + from ⌝ ∗ ⌜ length (now dst) ≤ 17179869184 ⌝ }
-    ensures { λ _. ⌜ Run 0 (now (dst .entry)) (now (dst .exit)) to (end - from) (λ k. getD (now (src .entry)) (from + k) 0) ⌝ }
-{
-    let mut k = 0;
-    while from + k < end {
-        dst[to + k] = src[from + k];
-        k += 1;
-    }
-}
-
 // Takes 80 pixels apart, those from m on, and lays 64 bytes in each plane, plane after plane; the first two planes are 16 bytes ahead of the others.
 fn split_block(src: &[u8], dst: &mut [u8], parts: &mut [u8], n: usize, m: usize)
     requires { ⌜ Counted n (now src) (now dst) ⌝ ∗ ⌜ length (now parts) ≡ 320 ⌝ ∗ ⌜ m + 80 ≤ n ⌝ ∗ ⌜ InPlanes n m 0 (now src) (now dst) ⌝ }
     ensures { λ _. ⌜ InPlanes n (m + 64) 0 (now (src .entry)) (now (dst .exit)) ⌝ }
 {
     take_apart(parts, src, m);
-    lay(parts, 16, 80, dst, m + 16);
-    lay(parts, 96, 160, dst, n + m + 16);
-    lay(parts, 160, 224, dst, 2 * n + m);
-    lay(parts, 240, 304, dst, 3 * n + m);
+    copy_run(parts, 16, dst, m + 16, 64);
+    copy_run(parts, 96, dst, n + m + 16, 64);
+    copy_run(parts, 160, dst, 2 * n + m, 64);
+    copy_run(parts, 240, dst, 3 * n + m, 64);
 }
 
 // Takes a picture apart by blocks, from pixel 48 on; answers up to where all pixels are in the planes. All blocks are lent the same parts:

@@ -1,4 +1,5 @@
 // Lines turned: the first element of each line, then the second of each, up to the last, so that short lines become few long ones.
+use pixels::copy_run;
 ghost use mathlib.Core.Path.{_≡_};
 ghost use Prim.Native.Nat.{ℕ, _+_, _*_, _/_, _%_, _≤_, _<_};
 ghost use lib.ListN.{length, getD};
@@ -11,18 +12,6 @@ pub fn pays(len: usize, lines: usize) -> bool {
     if len < 8 { 64 <= lines } else { false }
 }
 
-// One element of `size` bytes, from p on, into dst from q on.
-fn copy_element(src: &[u8], p: usize, dst: &mut [u8], q: usize, size: usize)
-    requires { ⌜ p + size ≤ length (now src) ⌝ ∗ ⌜ q + size ≤ length (now dst) ⌝ }
-    ensures { λ _. ⌜ Run 0 (now (dst .entry)) (now (dst .exit)) q size (λ k. getD (now (src .entry)) (p + k) 0) ⌝ }
-{
-    let mut k = 0;
-    while k < size {
-        dst[q + k] = src[p + k];
-        k += 1;
-    }
-}
-
 // `count` elements that stand `step` bytes apart, from p on, one after the other into dst from q on.
 fn gather(src: &[u8], p: usize, step: usize, dst: &mut [u8], q: usize, count: usize, size: usize)
     requires { ⌜ ((y : ℕ) → y < count → p + y * step + size ≤ length (now src)) ⌝ ∗ ⌜ q + count * size ≤ length (now dst) ⌝ }
@@ -30,7 +19,7 @@ fn gather(src: &[u8], p: usize, step: usize, dst: &mut [u8], q: usize, count: us
 {
     let mut y = 0;
     while y < count {
-        copy_element(src, p + y * step, dst, q + y * size, size);
+        copy_run(src, p + y * step, dst, q + y * size, size);
         y += 1;
     }
 }

@@ -1,21 +1,18 @@
--- The bytes up to place k are laid, and the others are as they were.
+-- The bytes up to place k are copied, and the others are as they were.
 use mathlib.Core.Path.{_≡_, refl}
 use Prim.Native.Nat.{_+_, _-_, _≤_}
 use native.Mathlib.Omega.{arith}
 use lib.ListN.{length, getD, length-set}
 use Rattle.picture.specs.Spans.{Run}
 use Rattle.picture.proofs.Spans.{span-none, span-more, span-ends}
-use Rattle.planes.proofs.lay.Statement.{statement}
-use Rattle.planes.proofs.lay.Tie as tie
+use Rattle.pixels.proofs.copy_run.Statement.{statement}
+use Rattle.pixels.proofs.copy_run.Tie as tie
 
 abbrev Inv-loop : tie.InvT-loop
-Inv-loop src from end dst₀ to k₀ dst k = (from + k ≤ end) × (length dst ≡ length dst₀) × Run 0 dst₀ dst to k (λ j. getD src (from + j) 0)
+Inv-loop src p dst₀ q n k₀ dst k = (k ≤ n) × (length dst ≡ length dst₀) × Run 0 dst₀ dst q k (λ j. getD src (p + j) 0)
 
 abbrev μ-loop : tie.MeasureT-loop
-μ-loop src from end dst₀ to k₀ dst k = end - (from + k)
-
-loop-holds : tie.Need-loop-holds Inv-loop μ-loop
-loop-holds c = (omega arith, refl, span-none (omega arith))
+μ-loop src p dst₀ q n k₀ dst k = n - k
 
 loop-again : tie.Need-loop-again Inv-loop μ-loop
 loop-again c =
@@ -25,14 +22,13 @@ loop-again c =
 returns : tie.Need-returns Inv-loop μ-loop
 returns c = span-ends (c .before .loop .inv .2) refl (omega arith)
 
-pub lay-spec : {M : Type 1} → statement M
-lay-spec =
+pub copy-run-spec : {M : Type 1} → statement M
+copy-run-spec =
     tie.close
     (tie.spec
     Inv-loop
     μ-loop
-    loop-holds
-    (λ c. omega arith)
+    (λ c. (omega arith, refl, span-none (omega arith)))
     (λ c. omega arith)
     (λ c. omega arith)
     (λ c. omega arith)
