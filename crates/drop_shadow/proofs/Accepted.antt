@@ -1,43 +1,32 @@
 -- Laws of an accepted call: what no refusal says, and a work buffer whose first part was lent and then cleared.
-use mathlib.Core.Path.{_≡_, _∙_, sym, ap}
+use mathlib.Core.Path.{_≡_, _∙_, ap}
 use mathlib.Core.Bool.{false}
 use mathlib.Core.List.{List, _++_}
-use Prim.Native.Nat.{ℕ, _+_, _-_, _*_, _/_, _≤_}
+use Prim.Native.Nat.{ℕ, _*_, _/_, _≤_}
 use native.Mathlib.Omega.{arith}
 use lib.Dec.{lit<}
 use lib.Ieee.{Float}
 use lib.ListN.{length, take, drop}
-use lib.Seq.{length-take-le, drop-append-add, drop-drop}
+use lib.Seq.{length-take-le}
 use borrow.Author.Tests.{ltb-false}
 use Rattle.picture.specs.Planes.{cleared}
 use Rattle.picture.specs.Sizes.{fullSize, fullBytes}
 use Rattle.picture.specs.declared.FullSize.{FullSize}
 use Rattle.picture.specs.Refusal.{firstOf, wrongSides, tooShort}
-use Rattle.picture.proofs.Planes.{cleared-is}
 use Rattle.picture.proofs.Sizes.{whole}
 use Rattle.picture.proofs.Passed.{passed}
 use Rattle.picture.proofs.Tests.{neither}
 use Rattle.binary32.specs.Ranges.{anyOutside}
 use Rattle.composite.specs.Shadow.{InUnit}
+use Rattle.gaussian_blur.proofs.Outcomes.{cleared-over}
 use Rattle.drop_shadow.specs.Shadowed.{colourOf}
 use Rattle.drop_shadow.specs.Needs.{ShadowReady, ShadowAccepted}
 use Rattle.drop_shadow.specs.Outcome.{eitherShort, notFinite, wrongColour, shadowChecks}
 use Rattle.drop_shadow.specs.declared.Recipe.{Recipe}
 
--- ---- a work buffer whose first a bytes are lent and come back as e, and of which the first k, at least as many, are cleared
-module _ {a k : ℕ} (work e : List ℕ) (l : a ≤ k) (fits : k ≤ length work) (kept : length e ≡ length (take a work)) where
-  -- nothing after them changed
-  same-rest : drop k (e ++ drop a work) ≡ drop k work
-  same-rest =
-      let long : length e ≡ a = kept ∙ length-take-le a work (omega arith) in
-      let all : length e + (k - a) ≡ k = omega arith in
-      ap (λ (n : ℕ). drop n (e ++ drop a work)) (sym all) ∙ drop-append-add e (drop a work) (k - a) ∙ drop-drop (k - a) a work ∙ ap (λ (n : ℕ). drop n work) {x = a + (k - a)} {y = k} (omega arith)
-
-  cleared-part : cleared k (e ++ drop a work) ≡ cleared k work
-  cleared-part = rw (cleared-is, cleared-is, same-rest)
-
-  cleared-whole : {m : ℕ} {z : List ℕ} → k ≡ m → z ≡ cleared k (e ++ drop a work) → z ≡ cleared m work
-  cleared-whole is clear = clear ∙ cleared-part ∙ ap (λ (n : ℕ). cleared n work) is
+-- ---- a work buffer whose first a bytes were lent and came back as e, and of which the first k, at least as many, were cleared
+cleared-whole : {a k m : ℕ} {z : List ℕ} (work e : List ℕ) → a ≤ k → k ≤ length work → length e ≡ length (take a work) → k ≡ m → z ≡ cleared k (e ++ drop a work) → z ≡ cleared m work
+cleared-whole work e l fits kept is clear = clear ∙ cleared-over work e l fits kept ∙ ap (λ (n : ℕ). cleared n work) is
 
 -- ---- an accepted call, whose plane and its scratch are the first w * h bytes of the work buffers
 module _ {size : FullSize} {picture scratch copy : List ℕ} {weights : List Float} {recipe : Recipe} {k : ℕ} (r : ShadowAccepted size picture scratch copy weights recipe) (is : k ≡ fullBytes size) where

@@ -1,6 +1,6 @@
 -- The shadow is cast by alpha alone: what casting all channels makes of alpha is that plane cast by itself, and the whole shadow is made of
 -- the picture and that plane, in whichever form they are stored.
-use mathlib.Core.Path.{_≡_, _∙_, sym, ap}
+use mathlib.Core.Path.{_≡_, _∙_, refl, sym, ap}
 use mathlib.Core.Bool.{Bool, true, false, cond}
 use mathlib.Core.List.{List}
 use Prim.Native.Nat.{ℕ, _+_, _*_, _/_, _%_, _<_}
@@ -26,8 +26,9 @@ use Rattle.shift.specs.Bytes.{planeShifted}
 use Rattle.shift.proofs.Plane.{plane-built}
 use Rattle.shift.proofs.Moved.{shifted-local}
 use Rattle.gaussian_blur.specs.Blurred.{blurredPlane, blurred, blurredForm}
-use Rattle.gaussian_blur.specs.Outcome.{aboveZero, blurredOrKept}
+use Rattle.gaussian_blur.specs.Outcome.{aboveZero, blurredOrKept, formOrKept}
 use Rattle.drop_shadow.specs.Shadowed.{colourOf, cast, shadowed}
+use Rattle.gaussian_blur.proofs.Outcomes as outcomes
 use Rattle.drop_shadow.specs.Cast.{movedPlane, castPlane, castBytes}
 use Rattle.drop_shadow.specs.declared.Recipe.{Recipe}
 
@@ -119,7 +120,7 @@ module _ (mode : EdgeMode) (weights : List Float) (n : ℕ) (recipe : Recipe) (w
     unfolding planeIn planeShifted
     moved-at x y lx ly = plane-read moved w h x y ∙ ap (λ (l : List ℕ). planeIn l w x y) made ∙ plane-built w h (movedPlane recipe w h (planeIn bytes w)) x y lx ly
 
-    pub cast-blurred : aboveZero (recipe .strength) ≡ true → blurredForm (ofPlanes 1) mode weights n w h moved ≡ castBytes mode weights n recipe w h bytes
+    cast-blurred : aboveZero (recipe .strength) ≡ true → blurredForm (ofPlanes 1) mode weights n w h moved ≡ castBytes mode weights n recipe w h bytes
     unfolding castBytes castPlane
     cast-blurred on =
         let F : ℕ → Plane = λ c. blurredPlane mode weights n w h (readAs (ofPlanes 1) moved w h c) in
@@ -134,6 +135,13 @@ module _ (mode : EdgeMode) (weights : List Float) (n : ℕ) (recipe : Recipe) (w
         ∙ read-write (ofPlanes 1) w h F 0 (i % w) (i / w) (omega arith) lx ly
         ∙ blurs _ _ moved-at (i % w) (i / w)))
 
-    pub cast-kept : aboveZero (recipe .strength) ≡ false → moved ≡ castBytes mode weights n recipe w h bytes
+    cast-kept : aboveZero (recipe .strength) ≡ false → moved ≡ castBytes mode weights n recipe w h bytes
     unfolding castBytes castPlane planeShifted planeIn
     cast-kept off = rw off made
+
+    pub cast-done : formOrKept (ofPlanes 1) mode weights n (recipe .strength) w h moved ≡ castBytes mode weights n recipe w h bytes
+    cast-done = by (aboveZero (recipe .strength)) refl
+      where
+        by : (b : Bool) → aboveZero (recipe .strength) ≡ b → formOrKept (ofPlanes 1) mode weights n (recipe .strength) w h moved ≡ castBytes mode weights n recipe w h bytes
+        by true on = sym (outcomes.blurs (ofPlanes 1) mode weights n (recipe .strength) w h moved on) ∙ cast-blurred on
+        by false off = sym (outcomes.keeps (ofPlanes 1) mode weights n (recipe .strength) w h moved off) ∙ cast-kept off

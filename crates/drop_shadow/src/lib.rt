@@ -50,20 +50,11 @@ pub fn cast_plane(
     ensures { λ _. ⌜ now (plane .exit) ≡ castBytes mode (now (weights .entry)) n recipe (size .w) (size .h) (now (plane .entry)) ⌝ }
 {
     shift::offset_plane(plane, size, recipe.dx, recipe.dy);
-    if 0.0 < recipe.strength {
-        gaussian_blur::apply_blur(
-            plane,
-            scratch,
-            size.level_zero(),
-            Form {
-                planes: 1,
-                lanes: 1,
-            },
-            n,
-            weights,
-            mode,
-        );
-    }
+    let one = Form {
+        planes: 1,
+        lanes: 1,
+    };
+    gaussian_blur::blur_form(plane, scratch, size, one, n, weights, mode, recipe.strength);
 }
 
 // Takes the picture's alphas, casts them as a shadow, colours it, and lays the picture over it.

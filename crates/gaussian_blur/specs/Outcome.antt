@@ -11,7 +11,8 @@ use Rattle.picture.specs.declared.EdgeMode.{EdgeMode}
 use Rattle.picture.specs.Refusal.{Check, check, firstOf, pictureChecks, tooShort, wrongTaps, tooDeep, wrongEdge}
 use Rattle.picture.specs.Answer.{Answer, Lent, lent, settled}
 use Rattle.binary32.specs.Ranges.{finite, anyOutside}
-use Rattle.gaussian_blur.specs.Blurred.{blurred}
+use Rattle.passes.specs.declared.Form.{Form}
+use Rattle.gaussian_blur.specs.Blurred.{blurred, blurredForm}
 
 -- checks 4 and 5, of a kernel
 abbrev pub kernelChecks : List Float → List Check
@@ -32,6 +33,10 @@ aboveZero strength = lt (fin false 0 (pos 0)) strength
 -- the picture of an accepted call: strength at or below zero leaves it as it is
 unfoldable pub blurredOrKept : EdgeMode → List Float → ℕ → Float → ℕ → ℕ → List ℕ → List ℕ
 blurredOrKept mode weights n strength w h bytes = cond (aboveZero strength) (blurred mode weights n w h bytes) bytes
+
+-- the same of bytes in any form
+unfoldable pub formOrKept : Form → EdgeMode → List Float → ℕ → Float → ℕ → ℕ → List ℕ → List ℕ
+formOrKept f mode weights n strength w h bytes = cond (aboveZero strength) (blurredForm f mode weights n w h bytes) bytes
 
 -- the first refusal; or the picture blurred, and the scratch zero where it was used
 unfoldable pub blurOutcome : List ℕ → ℕ → ℕ → List ℕ → List Float → ℕ → Float → ℕ → Answer Lent

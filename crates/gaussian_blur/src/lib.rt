@@ -6,14 +6,14 @@ use picture::LevelSize;
 ghost use mathlib.Core.Path.{_≡_};
 ghost use lib.ListN.{length};
 ghost use Rattle.picture.specs.Planes.{bytesOf, cleared};
-ghost use Rattle.picture.specs.Sizes.{Sized};
+ghost use Rattle.picture.specs.Sizes.{Sized, FullSized};
 ghost use Rattle.picture.specs.Refusal.{firstElse, firstOf};
 ghost use Rattle.picture.specs.Answer.{answered, lent};
 ghost use Rattle.passes.specs.Forms.{formBytes, Formed};
 ghost use Rattle.passes.specs.Kernel.{Kernel};
 ghost use Rattle.gaussian_blur.specs.Blurred.{blurredForm};
 ghost use Rattle.gaussian_blur.specs.Needs.{BlurReady, BlurAccepted};
-ghost use Rattle.gaussian_blur.specs.Outcome.{kernelChecks, blurChecks, blurredOrKept, blurOutcome};
+ghost use Rattle.gaussian_blur.specs.Outcome.{kernelChecks, blurChecks, blurredOrKept, formOrKept, blurOutcome};
 
 // Halves, blurs with one decimation fewer, and doubles, in any form; with none left it convolves.
 pub fn apply_blur(
@@ -47,6 +47,25 @@ pub fn apply_blur(
     }
 }
 
+// Blurs bytes in any form where the strength is above zero, and else leaves them as they are.
+pub fn blur_form(
+    bytes: &mut [u8],
+    scratch: &mut [u8],
+    size: FullSize,
+    form: Form,
+    n: u32,
+    weights: &[f32],
+    mode: EdgeMode,
+    strength: f32,
+)
+    requires { ⌜ Formed form ⌝ ∗ ⌜ FullSized size ⌝ ∗ ⌜ length (now bytes) ≡ formBytes form (size .w) (size .h) ⌝ ∗ ⌜ length (now scratch) ≡ formBytes form (size .w) (size .h) ⌝ ∗ ⌜ Kernel (now weights) ⌝ }
+    ensures { λ _. ⌜ now (bytes .exit) ≡ formOrKept form mode (now (weights .entry)) n strength (size .w) (size .h) (now (bytes .entry)) ⌝ }
+{
+    if 0.0 < strength {
+        apply_blur(bytes, scratch, size.level_zero(), form, n, weights, mode);
+    }
+}
+
 // Blurs where the strength is above zero, and else leaves the picture as it is.
 pub fn blur_or_keep(
     picture: &mut [u8],
@@ -60,20 +79,11 @@ pub fn blur_or_keep(
     requires { ⌜ BlurReady (size .w) (size .h) (now picture) (now scratch) (now weights) ⌝ }
     ensures { λ _. ⌜ now (picture .exit) ≡ blurredOrKept mode (now (weights .entry)) n strength (size .w) (size .h) (now (picture .entry)) ⌝ }
 {
-    if 0.0 < strength {
-        apply_blur(
-            picture,
-            scratch,
-            size.level_zero(),
-            Form {
-                planes: 1,
-                lanes: 4,
-            },
-            n,
-            weights,
-            mode,
-        );
-    }
+    let pixels = Form {
+        planes: 1,
+        lanes: 4,
+    };
+    blur_form(picture, scratch, size, pixels, n, weights, mode, strength);
 }
 
 // Checks 4 and 5, of a kernel, in front of what the later ones answer.

@@ -1,8 +1,8 @@
 -- Planes as a form: what is done to each of them where it lies is what is done to the picture that they are.
 use mathlib.Core.Path.{_≡_, refl, _∙_, sym, ap, fun-ext}
-use mathlib.Core.Bool.{true, false}
+use mathlib.Core.Bool.{Bool, true, false, cond}
 use mathlib.Core.List.{List}
-use Prim.Native.Nat.{ℕ, _+_, _*_, _/_, _%_}
+use Prim.Native.Nat.{ℕ, _*_, _/_, _%_}
 use native.Mathlib.Nat.{mul-one, mul-comm}
 use native.Mathlib.Omega.{arith}
 use lib.Ieee.{Float}
@@ -19,8 +19,8 @@ use Rattle.planes.specs.Planar.{planeOf, paintedPlanes, planar, interleaved, on
 use Rattle.planes.proofs.Planar.{planes-ext}
 use Rattle.planes.proofs.Once.{there, on-planes}
 use Rattle.gaussian_blur.specs.Blurred.{blurredPlane, blurred, blurredForm}
-use Rattle.gaussian_blur.specs.Outcome.{aboveZero, blurredOrKept}
-use Rattle.gaussian_blur.proofs.Outcomes.{blurs, keeps}
+use Rattle.gaussian_blur.specs.Outcome.{aboveZero, blurredOrKept, formOrKept}
+use Rattle.gaussian_blur.proofs.Outcomes.{made-or-kept}
 
 -- planes have as many bytes as the picture, ..
 pub planes-bytes : (w h : ℕ) → formBytes (ofPlanes 4) w h ≡ bytesOf w h
@@ -60,12 +60,11 @@ module _ (mode : EdgeMode) (weights : List Float) (w h : ℕ) (z : Sides w h) (p
       n w h (F c) (G c) (z .w-low) (z .h-low) (λ i j li lj. e c i j lc li lj) x y)
       (blurred mode weights n w h) (λ q. refl) p)
 
-  -- by the strength: the planes are blurred, ..
-  pub planes-worked : (n : ℕ) (strength : Float) → aboveZero strength ≡ true → blurredForm (ofPlanes 4) mode weights n w h p ≡ onPlanes w h (blurredOrKept mode weights n strength w h) p
-  unfolding onPlanes
-  planes-worked n strength on = planes-blurred n ∙ ap (planar w h) (blurs mode weights n strength w h (interleaved w h p) on)
-
-  -- .. or they stay
-  pub planes-kept : (n : ℕ) (strength : Float) → aboveZero strength ≡ false → length p ≡ bytesOf w h → p ≡ onPlanes w h (blurredOrKept mode weights n strength w h) p
-  unfolding onPlanes
-  planes-kept n strength off e = sym (there w h p e) ∙ ap (planar w h) (keeps mode weights n strength w h (interleaved w h p) off)
+  -- by the strength: each plane blurred, or all as they are
+  pub planes-worked : (n : ℕ) (strength : Float) → length p ≡ bytesOf w h → formOrKept (ofPlanes 4) mode weights n strength w h p ≡ onPlanes w h (blurredOrKept mode weights n strength w h) p
+  unfolding onPlanes blurredOrKept
+  planes-worked n strength e = made-or-kept (ofPlanes 4) mode weights n strength w h p (planes-blurred n) (sym (there w h p e)) ∙ by (aboveZero strength)
+    where
+      by : (b : Bool) → cond b (planar w h (blurred mode weights n w h (interleaved w h p))) (planar w h (interleaved w h p)) ≡ planar w h (cond b (blurred mode weights n w h (interleaved w h p)) (interleaved w h p))
+      by true = refl
+      by false = refl

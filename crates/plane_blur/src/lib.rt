@@ -14,35 +14,6 @@ ghost use Rattle.plane_blur.specs.Outcome.{blurPlanesOutcome};
 // two decimations 3.2 and 1.25; at 256 square it is 1.05 and 0.99.
 const WIDE: usize = 256;
 
-// Blurs planes where they lie, and leaves them as they are where the strength is not above zero.
-fn blur_or_keep_planes(
-    planes: &mut [u8],
-    scratch: &mut [u8],
-    size: FullSize,
-    n: u32,
-    weights: &[f32],
-    mode: EdgeMode,
-    strength: f32,
-)
-    requires { ⌜ BlurReady (size .w) (size .h) (now planes) (now scratch) (now weights) ⌝ }
-    ensures { λ _. ⌜ now (planes .exit) ≡ onPlanes (size .w) (size .h) (blurredOrKept mode (now (weights .entry)) n strength (size .w) (size .h)) (now (planes .entry)) ⌝ }
-{
-    if 0.0 < strength {
-        gaussian_blur::apply_blur(
-            planes,
-            scratch,
-            size.level_zero(),
-            Form {
-                planes: 4,
-                lanes: 1,
-            },
-            n,
-            weights,
-            mode,
-        );
-    }
-}
-
 // Blurs planes as the picture that they are: it is made in the scratch, with the planes' own bytes as its scratch.
 fn blur_converted(
     planes: &mut [u8],
@@ -77,7 +48,11 @@ fn apply_blur_planes(
     if size.width() < WIDE {
         blur_converted(planes, scratch, size, n, weights, mode, strength);
     } else {
-        blur_or_keep_planes(planes, scratch, size, n, weights, mode, strength);
+        let four = Form {
+            planes: 4,
+            lanes: 1,
+        };
+        gaussian_blur::blur_form(planes, scratch, size, four, n, weights, mode, strength);
     }
 }
 
