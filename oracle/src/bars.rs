@@ -52,7 +52,11 @@ pub fn print(rows: &[Row]) {
         ("every line", 0.25, ratios(rows, |name, _| !name.starts_with("whole"))),
         ("shadow alone", 0.08, ratios(rows, |name, _| name == "shadow alone")),
         ("shadow with original", 0.05, ratios(rows, |name, _| name == "shadow with original")),
-        ("everything at 16 and 64 square", 0.60, ratios(rows, |_, size| small(size))),
+        (
+            "everything but whole numbers at 16 and 64 square",
+            0.60,
+            ratios(rows, |name, size| !name.starts_with("whole") && small(size)),
+        ),
         ("a pixel at 4096 square against 256", 1.2, growth(rows, |name| name != "shift by half")),
         ("that of a shift by half, at memory's speed", 1.2, growth(rows, |name| name == "shift by half")),
         ("the dearest edge mode against the cheapest", 1.1, modes_apart(rows)),

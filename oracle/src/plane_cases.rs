@@ -219,6 +219,20 @@ pub fn stored(random: &mut Random) -> Vec<Case> {
     cases
 }
 
+/// Blurs of planes of 256 bytes and more to a row, which are blurred where they lie, to be stored: every mode at n to 2.
+/// Most bytes are 0, so that the lines of the file are short.
+pub fn wide(random: &mut Random) -> Vec<Case> {
+    let kernels: [&[f32]; 4] = [&[0.25, 0.5, 0.25], &[0.6, 0.4], &[0.1, 0.2, 0.3, 0.25, 0.15], &[0.05, 0.3, 0.5, 0.15]];
+    let mut cases = Vec::new();
+    for (n, edge) in (0..3).flat_map(|n| (0..4).map(move |edge| (n, edge))) {
+        let (w, h) = [(256, 2), (300, 1), (257, 1)][(n + edge) as usize % 3];
+        let picture = (0..4 * w * h).map(|_| if random.one_in(16) { random.byte() } else { 0 }).collect();
+        let weights = random.pick(&kernels).to_vec();
+        cases.push(on_planes(Case { n, edge, weights, ..Case::new(Entry::Blur, w, h, picture) }));
+    }
+    cases
+}
+
 /// The bytes that the library makes of others by converting.
 fn converted(library: &Library, entry: Entry, case: &Case, bytes: Vec<u8>) -> Vec<u8> {
     let other = vec![0; bytes.len()];

@@ -221,6 +221,7 @@ pub fn cases() -> Vec<Case> {
     later.extend(recipe_cases::stored(&mut Random::new(22)));
     generate::refusals(&mut Random::new(11), &ENTRIES[9..], 1, 2, &mut |case| later.push(case));
     cases.extend(later.into_iter().filter(is_short));
+    cases.extend(plane_cases::wide(&mut Random::new(23)));
     cases
 }
 
@@ -263,7 +264,7 @@ fn border_shifts(random: &mut Random) -> Vec<Case> {
     cases
 }
 
-/// What fits the buffers of the crate `replay`.
+/// What fits the buffers of the crate `replay`, which have 2048 bytes, and makes a short line.
 fn is_small(case: &Case) -> bool {
     let bytes = case.picture.len();
     case.scratch.max(case.copy) <= 512 && (bytes < 150 || case.is_plate() && bytes < 400)

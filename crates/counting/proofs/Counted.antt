@@ -1,11 +1,13 @@
 -- Laws of how many places a test holds at.
-use mathlib.Core.Path.{_≡_, refl}
-use mathlib.Core.Bool.{Bool, true, false, cond}
+use mathlib.Core.Path.{_≡_, refl, sym, ap, _∙_}
+use mathlib.Core.Bool.{Bool, true, false, cond, true≢false}
 use mathlib.Core.Logic.{⊎-elim}
 use Prim.Native.Nat.{ℕ, zero, suc, _+_, _≤_, _<_}
 use native.Mathlib.Nat.{add-zero}
 use native.Mathlib.Numerals.{add-one}
 use native.Mathlib.Omega.{arith}
+use borrow.Author.Tests.{eq-eqb, ne-eqb}
+use lib.Dec.{eqb}
 use Rattle.picture.proofs.Spans.{le-or-lt}
 use Rattle.counting.specs.Counts.{howMany}
 
@@ -54,3 +56,19 @@ none-many test (suc n) z k l = by-test (test n) refl (λ m. none-many test n m)
     by-test true t below = absurd (omega (arith, rw t at z))
     by-test false t below =
         ⊎-elim (λ (m : n ≤ k). let e : k ≡ n = omega arith in rw e t) (λ (m : k < n). below (omega (arith, rw t at z)) k m) (le-or-lt n k)
+
+-- none of more places, where there is none beyond the first i
+pub none-more : (test : ℕ → Bool) (i m : ℕ) → howMany test i ≡ 0 → ((k : ℕ) → k < m → test (i + k) ≡ false) → howMany test (i + m) ≡ 0
+none-more test i m z h = omega (arith, many-split test i m, many-none (λ k. test (i + k)) m h)
+
+-- none of fewer places, where there is none of all ..
+pub fewer-none : (test : ℕ → Bool) (i n : ℕ) → i ≤ n → howMany test n ≡ 0 → howMany test i ≡ 0
+fewer-none test i n l z = many-none test i (λ k m. none-many test n z k (omega arith))
+
+-- .. and not none, where the test holds at one
+pub some-many : (test : ℕ → Bool) (n k : ℕ) → k < n → test k ≡ true → eqb (howMany test n) 0 ≡ false
+some-many test n k l t = ne-eqb _ 0 (λ z. true≢false (sym t ∙ none-many test n z k l))
+
+-- none of all, where the places with none are all
+pub all-none : (test : ℕ → Bool) {i n : ℕ} → i ≡ n → howMany test i ≡ 0 → true ≡ eqb (howMany test n) 0
+all-none test e z = sym (eq-eqb (howMany test _) 0 (ap (howMany test) (sym e) ∙ z))

@@ -1,3 +1,4 @@
--- The definitions that contracts cite of counting pixels, and of a pixel in one word.
+-- The definitions that contracts cite of counting pixels, of a pixel in one word, and of bytes joined.
 pub mod Counts
 pub mod Words
+pub mod Over

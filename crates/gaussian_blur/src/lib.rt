@@ -90,7 +90,7 @@ pub fn kernel_refusal(weights: &[f32], later: u32) -> u32
 }
 
 // The first of refusals 1 to 7 and 9 that fits, 0 where none does; of the buffers' lengths.
-fn blur_refusal(
+pub fn blur_refusal(
     picture: usize,
     w: u32,
     h: u32,

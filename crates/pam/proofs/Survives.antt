@@ -20,7 +20,8 @@ use Rattle.grading.specs.Premultiplied.{none, checked}
 use Rattle.pam_format.specs.Header.{header}
 use Rattle.pam_format.specs.Format.{widthIn, heightIn, fileLength, Pam}
 use Rattle.pam_format.proofs.Files.{pam-is}
-use Rattle.pam_convert.specs.Straight.{outward, imported, exported}
+use Rattle.unmultiply.specs.Outward.{outward}
+use Rattle.pam_convert.specs.Straight.{imported, exported}
 use Rattle.pam.specs.Needs.{Passed}
 use Rattle.pam.specs.Import.{pixelsIn, importOutcome, importAnswer}
 use Rattle.pam.specs.Export.{fileOf}

@@ -22,9 +22,11 @@ use Rattle.pixels.proofs.Painting.{chan-here}
 use Rattle.grading.proofs.Scanned.{below-alpha}
 use Rattle.counting.specs.Words.{unpacked, byteIn}
 use Rattle.counting.proofs.Packed.{Byted, Bytes, unpacks, unpacks-at}
-use Rattle.pam_convert.specs.Straight.{outward, recolouredChannel, recoloured, anewAt, factorAt, newPixel, newWord, newAt}
+use Rattle.unmultiply.specs.Outward.{outward}
+use Rattle.unmultiply.proofs.Outward.{outward-byte}
+use Rattle.pam_convert.specs.Straight.{recolouredChannel, recoloured, anewAt, factorAt, newPixel, newWord, newAt}
 use Rattle.pam_convert.specs.Needs.{Fit}
-use Rattle.pam_convert.proofs.Straight.{outward-byte, premultiply-opaque}
+use Rattle.pam_convert.proofs.Straight.{premultiply-opaque}
 
 -- a list by its rule, in two parts
 build-append : (a b : ℕ) (f : ℕ → ℕ) → build (a + b) f ≡ build a f ++ build b (λ i. f (a + i))

@@ -11,7 +11,8 @@ use Rattle.pixels.specs.Channels.{premultiply}
 use Rattle.pixels.proofs.Channels.{premultiply-le}
 use Rattle.pixels.proofs.Painting.{at}
 use Rattle.grading.specs.Premultiplied.{none, scanned}
-use Rattle.pam_convert.specs.Straight.{outward, recolouredChannel, imported, exported}
+use Rattle.unmultiply.specs.Outward.{outward}
+use Rattle.pam_convert.specs.Straight.{recolouredChannel, imported, exported}
 use Rattle.pam_convert.proofs.Recolouring.{anew, length-recoloured, recoloured-at}
 use Rattle.grading.proofs.Scanned.{passes-at, finds-none, below-alpha, fits-alpha}
 use Rattle.pam_convert.proofs.Straight.{survives}

@@ -2,4 +2,5 @@
 pub mod Straight
 pub mod Recolouring
 pub mod Anew
+pub mod Fronted
 pub mod Channels

@@ -9,10 +9,7 @@ use Rattle.picture.specs.declared.Pixel.{Pixel}
 use Rattle.pixels.specs.Pixels.{packed}
 use Rattle.pixels.specs.Channels.{premultiply}
 use Rattle.counting.specs.Words.{unpacked}
-
--- outward: c becomes floor((255·c + floor(a/2)) / a), or 0 when a is 0
-unfoldable pub outward : ℕ → ℕ → ℕ
-outward c a = cond (eqb a 0) 0 ((255 * c + a / 2) / a)
+use Rattle.unmultiply.specs.Outward.{outward}
 
 -- a pixel whose r, g and b are each made anew by a rule of it and its alpha; the alpha stays
 abbrev pub recolouredPixel : (ℕ → ℕ → ℕ) → Pixel → Pixel
@@ -30,6 +27,7 @@ recoloured f w h bytes = painted w h (λ c x y. recolouredChannel f c (chan byte
 abbrev pub imported : ℕ → ℕ → List ℕ → List ℕ
 imported w h body = recoloured premultiply w h body
 
+-- outward, what `outward` says
 abbrev pub exported : ℕ → ℕ → List ℕ → List ℕ
 exported w h picture = recoloured outward w h picture
 

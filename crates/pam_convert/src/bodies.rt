@@ -1,6 +1,7 @@
 // The body of a file, inward and outward: a block of 32 pixels at a time, and then the rest. That number is the same at every turn, so that
 // the compiler keeps a block in registers.
 use crate::blocks::convert_block;
+use opaque::copy_opaque;
 use picture::FullSize;
 ghost use mathlib.Core.Path.{_≡_};
 ghost use Prim.Native.Nat.{_*_, _%_, _<_};
@@ -59,18 +60,20 @@ fn convert(to: &mut [u8], from: &[u8], out: bool)
     );
 }
 
-// The body of a file inward.
+// The body of a file inward. Opaque pixels in front stay as they are.
 pub fn read_body(picture: &mut [u8], size: FullSize, body: &[u8])
     requires { ⌜ Pictured (size .w) (size .h) (now body) ⌝ ∗ ⌜ length (now picture) ≡ fullBytes size ⌝ }
     ensures { λ _. ⌜ now (picture .exit) ≡ imported (size .w) (size .h) (now (body .entry)) ⌝ }
 {
-    convert(picture, body, false);
+    let front = copy_opaque(picture, body);
+    convert(&mut picture[front..], &body[front..], false);
 }
 
-// The body of a file.
+// The body of a file. Opaque pixels in front stay as they are.
 pub fn write_body(body: &mut [u8], size: FullSize, picture: &[u8])
     requires { ⌜ Passing (size .w) (size .h) (now picture) ⌝ ∗ ⌜ length (now body) ≡ fullBytes size ⌝ }
     ensures { λ _. ⌜ now (body .exit) ≡ exported (size .w) (size .h) (now (picture .entry)) ⌝ }
 {
-    convert(body, picture, true);
+    let front = copy_opaque(body, picture);
+    convert(&mut body[front..], &picture[front..], true);
 }

@@ -2,7 +2,8 @@
 use picture::Pixel;
 ghost use mathlib.Core.Path.{_≡_};
 ghost use Prim.Native.Nat.{_+_, _*_, _≤_};
-ghost use lib.ListN.{length};
+ghost use lib.ListN.{length, getD};
+ghost use Rattle.picture.specs.Spans.{Run};
 ghost use Rattle.pixels.specs.Pixels.{pixelAt, withPixel, packed};
 ghost use Rattle.pixels.specs.Channels.{exceeds, premultiply};
 
@@ -75,5 +76,17 @@ pub fn copy_bytes(to: &mut [u8], from: &[u8])
     while i < to.len() {
         to[i] = from[i];
         i += 1;
+    }
+}
+
+// Copies n bytes, from p on, into dst from q on.
+pub fn copy_run(src: &[u8], p: usize, dst: &mut [u8], q: usize, n: usize)
+    requires { ⌜ p + n ≤ length (now src) ⌝ ∗ ⌜ q + n ≤ length (now dst) ⌝ }
+    ensures { λ _. ⌜ Run 0 (now (dst .entry)) (now (dst .exit)) q n (λ k. getD (now (src .entry)) (p + k) 0) ⌝ }
+{
+    let mut k = 0;
+    while k < n {
+        dst[q + k] = src[p + k];
+        k += 1;
     }
 }

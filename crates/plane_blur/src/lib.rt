@@ -4,11 +4,10 @@ use picture::EdgeMode;
 use picture::FullSize;
 ghost use mathlib.Core.Path.{_≡_};
 ghost use Rattle.picture.specs.Planes.{bytesOf, cleared};
-ghost use Rattle.picture.specs.Refusal.{firstOf};
 ghost use Rattle.picture.specs.Answer.{answered, lent};
 ghost use Rattle.planes.specs.Planar.{onPlanes};
 ghost use Rattle.gaussian_blur.specs.Needs.{BlurReady, BlurAccepted};
-ghost use Rattle.gaussian_blur.specs.Outcome.{blurChecks, blurredOrKept};
+ghost use Rattle.gaussian_blur.specs.Outcome.{blurredOrKept};
 ghost use Rattle.plane_blur.specs.Outcome.{blurPlanesOutcome};
 
 // Planes of fewer bytes to a row are converted: line by line they cost more, up to 1.67 of a picture's blur at 16 square and 1.09 at 128, and with
@@ -82,39 +81,6 @@ fn apply_blur_planes(
     }
 }
 
-// The first of refusals 1 to 7 and 9 that fits, 0 where none does; of the buffers' lengths.
-fn blur_planes_refusal(
-    planes: usize,
-    w: u32,
-    h: u32,
-    scratch: usize,
-    weights: &[f32],
-    n: u32,
-    strength: f32,
-    edge: u32,
-) -> u32
-    ensures { λ r. ⌜ r ≡ firstOf (blurChecks planes w h scratch (now (weights .entry)) n strength edge) ⌝ }
-{
-    let short = picture::too_short(scratch, w, h);
-    let finite = binary32::is_finite(strength);
-    let last = picture::first(picture::WRONG_EDGE, picture::wrong_edge(edge), 0);
-    let later = picture::first(
-        picture::TOO_DEEP,
-        picture::too_deep(n),
-        picture::first(picture::NOT_FINITE, !finite, last),
-    );
-    picture::picture_refusal(
-        planes,
-        w,
-        h,
-        picture::first(
-            picture::TOO_SHORT,
-            short,
-            gaussian_blur::kernel_refusal(weights, later),
-        ),
-    )
-}
-
 // An accepted call: the planes blurred or kept, and the scratch zero where it was used.
 fn blur_planes_accepted(
     planes: &mut [u8],
@@ -146,7 +112,7 @@ pub fn blur_planes(
 ) -> u32
     ensures { λ r. ⌜ answered r (lent (now (planes .exit)) (now (scratch .exit))) ≡ blurPlanesOutcome (now (planes .entry)) w h (now (scratch .entry)) (now (weights .entry)) n strength edge ⌝ }
 {
-    let r = blur_planes_refusal(
+    let r = gaussian_blur::blur_refusal(
         planes.len(),
         w,
         h,

@@ -1,21 +1,18 @@
 -- Premultiplied planes stay premultiplied, by conversion: what an operation keeps of a picture it keeps of planes.
 use mathlib.Core.Path.{_≡_}
-use mathlib.Core.Bool.{Bool}
 use mathlib.Core.List.{List}
 use Prim.Native.Nat.{ℕ}
 use native.Mathlib.Omega.{arith}
 use lib.ListN.{length}
-use lib.Ieee.{Float}
-use denote.Ref.{now}
 use Rattle.picture.specs.Planes.{bytesOf, painted}
-use Rattle.picture.specs.Answer.{answered, Lent, lent, LentCopy, lentCopy}
-use Rattle.picture.proofs.Planes.{chan-painted, length-painted}
+use Rattle.picture.specs.Refusal.{firstOf}
+use Rattle.picture.specs.Answer.{LentCopy}
+use Rattle.picture.specs.declared.FullSize.{FullSize}
+use Rattle.picture.proofs.Planes.{chan-painted}
 use Rattle.kept.proofs.Left.{either-way}
-use Rattle.exact_blur.specs.Demand.{Bytes, LentBytes}
+use Rattle.exact_blur.specs.Demand.{Bytes}
 use Rattle.gaussian_blur.proofs.Outcomes.{accepted}
 use Rattle.binary32.specs.Round.{wholeOffset}
-use Rattle.shift.specs.Shift.{shiftedPicture}
-use Rattle.drop_shadow.specs.declared.Recipe.{Recipe}
 use Rattle.premultiplied.specs.Stays.{KeepsPremultiplied}
 use Rattle.premultiplied.proofs.Checked.{under-alpha}
 use Rattle.premultiplied.proofs.Painted.{painted-bytes}
@@ -24,12 +21,9 @@ use Rattle.premultiplied.proofs.Shifts.{shift-keeps}
 use Rattle.premultiplied.proofs.Shadows.{shadow-keeps}
 use Rattle.planes.specs.Planar.{planeOf, planar, interleaved, onPlanes}
 use Rattle.planes.proofs.Once.{length-interleaved, back}
-use Rattle.plane_shift.specs.Shifted.{shiftPlanesOutcome}
-use Rattle.plane_blur.specs.Outcome.{blurPlanesOutcome}
-use Rattle.plane_blur.proofs.Same.{blur-long}
-use Rattle.plane_shadow.specs.Outcome.{shadowPlanesOutcome}
-use Rattle.plane_shadow.proofs.Same.{shadow-long}
+use Rattle.plane_laws.specs.Calls.{Operation, blur, shift, shadow, Given, Work}
 use Rattle.plane_laws.specs.Stays.{PremultipliedPlanes, AsPicture, LeavesPlanes, PlanesStay}
+use Rattle.plane_laws.proofs.Calls.{checks, made, made-long, Works, each-on-planes}
 
 pub as-picture : AsPicture
 unfolding interleaved
@@ -54,30 +48,17 @@ planes-keep w h op keeps long p fit pre =
     (rw (back w h (op (interleaved w h p)) (long _ (length-interleaved w h p)))
     (keeps .premultiplied _ (picture-bytes w h p (λ i. omega (arith, fit i .fits))) (as-picture w h p .0 pre)))
 
--- for a caller, of the equation that each entry promises
-pub blur-leaves : (p : List ℕ) (w h : ℕ) (s : List ℕ) (weights : List Float) (n : ℕ) (strength : Float) (edge r : ℕ) (left : Lent) →
-    answered r left ≡ blurPlanesOutcome p w h s weights n strength edge → LeavesPlanes w h p (left .picture)
-unfolding blurPlanesOutcome
-blur-leaves p w h s weights n strength edge r left e fit pre =
-    either-way (λ (l : Lent). PremultipliedPlanes w h (l .picture)) _ _ _ r left e pre
-    (λ z. planes-keep w h _ (blur-keeps _ _ (accepted p w h s weights n strength edge z .1 .kernel) _ w h _) (λ q long. blur-long w h q long _ weights n strength) p fit pre)
+-- whatever the operation, where none of its checks refuses
+made-keeps : (o : Operation) (g : Given o) (z : FullSize) (l : LentCopy) → 0 ≡ firstOf (checks o g z (length (l .picture)) (length (l .scratch)) (length (l .copy))) → KeepsPremultiplied (z .w) (z .h) (made o g z)
+made-keeps blur g z l none = blur-keeps _ _ (accepted (l .picture) (z .w) (z .h) (l .scratch) (g .0) (g .1) (g .2) (g .3) none .1 .kernel) _ (z .w) (z .h) _
+made-keeps shift g z l none = shift-keeps (wholeOffset (g .0)) (wholeOffset (g .1)) (z .w) (z .h)
+made-keeps shadow g z l none = shadow-keeps _ (g .0) (g .1) (g .3) (z .w) (z .h) (g .4)
 
-pub shift-leaves : (p : List ℕ) (w h : ℕ) (dx dy : Float) (r : ℕ) (left : List ℕ) → answered r left ≡ shiftPlanesOutcome p w h dx dy → LeavesPlanes w h p left
-unfolding shiftPlanesOutcome shiftedPicture
-shift-leaves p w h dx dy r left e fit pre =
-    either-way (PremultipliedPlanes w h) _ _ _ r left e pre (λ _. planes-keep w h _ (shift-keeps (wholeOffset dx) (wholeOffset dy) w h) (λ q _. length-painted w h _) p fit pre)
-
-pub shadow-leaves : (p : List ℕ) (w h : ℕ) (s c : List ℕ) (weights : List Float) (n edge : ℕ) (recipe : Recipe) (composite : Bool) (r : ℕ) (left : LentCopy) →
-    answered r left ≡ shadowPlanesOutcome p w h s c weights n edge recipe composite → LeavesPlanes w h p (left .picture)
-unfolding shadowPlanesOutcome
-shadow-leaves p w h s c weights n edge recipe composite r left e fit pre =
-    either-way (λ (l : LentCopy). PremultipliedPlanes w h (l .picture)) _ _ _ r left e pre
-    (λ _. planes-keep w h _ (shadow-keeps _ weights n recipe w h composite) (λ q long. shadow-long w h q long _ weights n recipe composite) p fit pre)
+planes-leave : (o : Operation) (k : Work o) → Works o onPlanes k → LeavesPlanes (k .size .w) (k .size .h) (k .before .picture) (k .after .picture)
+planes-leave o k e fit pre =
+    let z = k .size in
+    either-way (λ (l : LentCopy). PremultipliedPlanes (z .w) (z .h) (l .picture)) _ _ _ (k .number) (k .after) e pre
+    (λ none. planes-keep (z .w) (z .h) _ (made-keeps o (k .given) z (k .before) none) (made-long o (k .given) z) (k .before .picture) fit pre)
 
 pub planes-stay : PlanesStay
-planes-stay =
-    record {
-      blur = λ κs a r left. blur-leaves _ _ _ _ _ _ _ _ r (lent (now (left .0)) (now (left .1 .1 .1 .0)));
-      shift = λ κs a r left. shift-leaves _ _ _ _ _ r (now (left .0));
-      shadow = λ κs a r left. shadow-leaves _ _ _ _ _ _ _ _ _ _ r (lentCopy (now (left .0)) (now (left .1 .1 .1 .0)) (now (left .1 .1 .1 .1 .0)));
-    }
+planes-stay o = each-on-planes o _ (planes-leave o)

@@ -2,19 +2,10 @@
 use mathlib.Core.List.{List}
 use mathlib.Core.Logic.{_↔_}
 use Prim.Native.Nat.{ℕ, _≤_, _<_}
-use contract.Lifetimes.{Lfts}
-use borrow.Fn.Kinds.{Dens, endedOf}
-use denote.Ref.{now}
-use denote.Triple.Clauses.{AtExit}
 use Rattle.exact_blur.specs.Demand.{LentBytes}
 use Rattle.premultiplied.specs.Rule.{Premultiplied}
 use Rattle.planes.specs.Planar.{planeOf, interleaved}
-use Rattle.plane_shift.proofs.shift_planes.Reads as shift
-use Rattle.plane_shift.proofs.shift_planes.Kinds as shift-kinds
-use Rattle.plane_blur.proofs.blur_planes.Reads as blur
-use Rattle.plane_blur.proofs.blur_planes.Kinds as blur-kinds
-use Rattle.plane_shadow.proofs.shadow_planes.Reads as shadow
-use Rattle.plane_shadow.proofs.shadow_planes.Kinds as shadow-kinds
+use Rattle.plane_laws.specs.Calls.{Operation, OnPlanes}
 
 -- of four planes of w by h: r, g and b at each place are at most a there
 abbrev pub PremultipliedPlanes : ℕ → ℕ → List ℕ → Type 0
@@ -28,11 +19,6 @@ AsPicture = (w h : ℕ) (planes : List ℕ) → PremultipliedPlanes w h planes �
 abbrev pub LeavesPlanes : ℕ → ℕ → List ℕ → List ℕ → Type 0
 LeavesPlanes w h before after = LentBytes before → PremultipliedPlanes w h before → PremultipliedPlanes w h after
 
--- each entry by its contract, whatever it answers: a refused call leaves the planes as they were
-pub record PlanesStay : Type 0 where
-  pub blur : (κs : Lfts 3) (a : Dens κs blur-kinds.ps) (r : ℕ) (left : AtExit (endedOf 3 blur-kinds.ps blur-kinds.r) κs) → blur.Post κs a r left →
-      LeavesPlanes (a .1 .0) (a .1 .1 .0) (now (a .0)) (now (left .0))
-  pub shift : (κs : Lfts 1) (a : Dens κs shift-kinds.ps) (r : ℕ) (left : AtExit (endedOf 1 shift-kinds.ps shift-kinds.r) κs) → shift.Post κs a r left →
-      LeavesPlanes (a .1 .0) (a .1 .1 .0) (now (a .0)) (now (left .0))
-  pub shadow : (κs : Lfts 4) (a : Dens κs shadow-kinds.ps) (r : ℕ) (left : AtExit (endedOf 4 shadow-kinds.ps shadow-kinds.r) κs) → shadow.Post κs a r left →
-      LeavesPlanes (a .1 .0) (a .1 .1 .0) (now (a .0)) (now (left .0))
+-- a call of any operation, whatever it answers: a refused one leaves the planes as they were
+abbrev pub PlanesStay : Type 0
+PlanesStay = (o : Operation) → OnPlanes o (λ k. LeavesPlanes (k .size .w) (k .size .h) (k .before .picture) (k .after .picture))

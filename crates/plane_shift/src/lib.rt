@@ -1,12 +1,11 @@
 // The shift on four planes, with the refusals of that on a picture: each plane is moved by itself, where it lies.
 use picture::FullSize;
 ghost use mathlib.Core.Path.{_≡_};
-ghost use Rattle.picture.specs.Refusal.{firstOf};
 ghost use Rattle.picture.specs.Answer.{answered};
 ghost use Rattle.binary32.specs.Round.{wholeOffset};
 ghost use Rattle.planes.specs.Planar.{onPlanes};
 ghost use Rattle.shift.specs.Shift.{shiftedPicture};
-ghost use Rattle.shift.specs.Outcome.{ShiftReady, shiftChecks};
+ghost use Rattle.shift.specs.Outcome.{ShiftReady};
 ghost use Rattle.plane_shift.specs.Shifted.{shiftPlanesOutcome};
 
 // Moves four planes by dx and dy, each rounded to whole pixels: plane after plane, where they lie.
@@ -23,23 +22,11 @@ fn offset_planes(planes: &mut [u8], size: FullSize, dx: f32, dy: f32)
     }
 }
 
-// The first of refusals 1, 2 and 7 that fits, 0 where none does; of the planes' length.
-fn shift_planes_refusal(planes: usize, w: u32, h: u32, dx: f32, dy: f32) -> u32
-    ensures { λ r. ⌜ r ≡ firstOf (shiftChecks planes w h dx dy) ⌝ }
-{
-    picture::picture_refusal(
-        planes,
-        w,
-        h,
-        picture::first(picture::NOT_FINITE, shift::wrong_offsets(dx, dy), 0),
-    )
-}
-
 // Moves four planes of w by h by dx and dy, rounded to whole pixels. Answers the refusal number.
 pub fn shift_planes(planes: &mut [u8], w: u32, h: u32, dx: f32, dy: f32) -> u32
     ensures { λ r. ⌜ answered r (now (planes .exit)) ≡ shiftPlanesOutcome (now (planes .entry)) w h dx dy ⌝ }
 {
-    let refusal = shift_planes_refusal(planes.len(), w, h, dx, dy);
+    let refusal = shift::shift_refusal(planes.len(), w, h, dx, dy);
     if refusal != 0 {
         return refusal;
     }

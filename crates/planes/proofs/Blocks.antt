@@ -1,5 +1,5 @@
--- Laws of a picture that is taken apart by blocks: a block in one plane more, and in all four.
-use mathlib.Core.Path.{_≡_, _∙_, refl, sym}
+-- Laws of a picture that is taken apart by blocks, a block in one plane more and in all four; and of one that is put together by blocks.
+use mathlib.Core.Path.{_≡_, _∙_, refl, sym, ap}
 use mathlib.Core.Bool.{Bool, true, false, cond}
 use mathlib.Core.List.{List}
 use mathlib.Core.Logic.{⊎-elim}
@@ -8,10 +8,13 @@ use native.Mathlib.Omega.{arith}
 use lib.Dec.{ltb}
 use lib.ListN.{length, getD}
 use borrow.Author.Tests.{lt-ltb, le-ltb}
+use Rattle.picture.specs.Build.{build}
 use Rattle.picture.specs.Spans.{Run}
+use Rattle.picture.proofs.Build.{getD-build}
 use Rattle.picture.proofs.Spans.{le-or-lt, within, span-at}
-use Rattle.planes.specs.Places.{Carried, pixelwise, onward, lead, reach, InPlanes}
-use Rattle.planes.proofs.Carried.{read, pixel-at, channel-at}
+use Rattle.halves.specs.Blocks.{apart, together}
+use Rattle.planes.specs.Places.{Carried, pixelwise, lead, reach, InPlanes}
+use Rattle.planes.proofs.Carried.{read, channel-at}
 
 small : (b : Bool) (x : ℕ) → cond b x 0 ≤ x
 small true x = omega arith
@@ -55,13 +58,13 @@ none : (c : ℕ) → cond {A = ℕ} (ltb c 0) 64 0 ≡ 0
 none c = rw (le-ltb c 0 (omega arith))
 
 -- 80 pixels taken apart, and 64 bytes of each channel laid in its plane
-module _ (n m : ℕ) (src : List ℕ) (room : m + 80 ≤ n) (parts : List ℕ) (apart : Carried (onward (4 * m)) (pixelwise 80 1) src parts 320) where
+module _ (n m : ℕ) (src : List ℕ) (room : m + 80 ≤ n) (parts : List ℕ) (taken : parts ≡ build 320 (apart src m)) where
   laid-more : (t o p : ℕ) (d e : List ℕ) → t < 4 → o ≡ 80 * t + lead t → p ≡ t * n + (m + lead t) → Run 0 d e p 64 (λ k. getD parts (o + k) 0) → InPlanes n m t src d → InPlanes n m (t + 1) src e
   laid-more t o p d e lt eo ep laid old =
       plane-more n m src room t d e p (λ k. getD parts (o + k) 0) laid ep
       (λ k lk.
-      let j = 4 * (lead t + k) + t in
-      read parts (omega (arith, pixel-at 80 1 j (lead t + k) t lt refl)) ∙ apart j (omega (arith, small (ltb t 2) 16)) ∙ read src (omega arith))
+      let short : lead t ≤ 16 = small (ltb t 2) 16 in
+      ap (λ (b : List ℕ). getD b (o + k) 0) taken ∙ getD-build 320 (apart src m) (o + k) (omega arith) ∙ read src (omega arith))
       old
 
   pub block-split : (d₀ d₁ d₂ d₃ d₄ : List ℕ) → InPlanes n m 0 src d₀ →
@@ -81,3 +84,14 @@ module _ (n : ℕ) (src dst : List ℕ) where
 
   pub blocks-end : (m : ℕ) → InPlanes n m 0 src dst → Carried (pixelwise 1 4) (pixelwise n 1) src dst (4 * m)
   blocks-end m f j lj = read dst (omega arith) ∙ f (j % 4) (j / 4) (omega arith) (omega arith) ∙ read src (omega arith)
+
+-- 64 pixels more are put together
+pub joined-more : (n m : ℕ) (src d e : List ℕ) → Run 0 d e (4 * m) 256 (together src n m) → Carried (pixelwise n 1) (pixelwise 1 4) src d (4 * m) → Carried (pixelwise n 1) (pixelwise 1 4) src e (4 * (m + 64))
+joined-more n m src d e laid old j l =
+    ⊎-elim
+    (λ (u : 4 * m ≤ j).
+    let k = j - 4 * m in
+    let lane : k % 4 ≡ j % 4 = omega arith in
+    span-at laid k (omega arith) (omega arith) (omega arith) ∙ rw lane (read src (omega arith)))
+    (λ (u : j < 4 * m). laid .below (pixelwise 1 4 j) (omega arith) ∙ old j u)
+    (le-or-lt (4 * m) j)

@@ -6,6 +6,5 @@ pub mod Blocks
 pub mod Once
 pub mod Same
 pub mod Entry
-pub mod Returned
 pub mod Determined
 pub mod Examples

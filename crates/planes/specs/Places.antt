@@ -22,10 +22,6 @@ pixelwise channel pixel j = j % 4 * channel + j / 4 * pixel
 abbrev pub withPixel : List ℕ → ℕ → ℕ → List ℕ → ℕ → ℕ → List ℕ
 withPixel src p s dst q d = set (set (set (set dst q (getD src p 0)) (q + d) (getD src (p + s) 0)) (q + 2 * d) (getD src (p + 2 * s) 0)) (q + 3 * d) (getD src (p + 3 * s) 0)
 
--- one after the other
-abbrev pub onward : ℕ → Places
-onward from j = from + j
-
 -- what carrying the pixels from `from` up to `to` needs: those before are there, and each byte has a place of its own
 pub record Carries (read write : Places) (from to : ℕ) (src dst : List ℕ) : Type 0 where
   pub order : from ≤ to

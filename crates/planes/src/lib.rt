@@ -1,13 +1,15 @@
 // A picture as four planes: all r, then all g, b and a; and back.
+use halves::apart::take_apart;
+use halves::together::put_together;
 use picture::FullSize;
+use pixels::copy_run;
 ghost use mathlib.Core.Path.{_≡_};
 ghost use Rattle.picture.specs.Refusal.{firstOf};
 ghost use Rattle.picture.specs.Answer.{answered};
-ghost use Prim.Native.Nat.{_+_, _-_, _*_, _≤_, _<_};
-ghost use lib.ListN.{length, getD};
-ghost use Rattle.picture.specs.Spans.{Run};
+ghost use Prim.Native.Nat.{_+_, _*_, _≤_, _<_};
+ghost use lib.ListN.{length};
 ghost use Rattle.planes.specs.Planar.{planar, interleaved, Converts};
-ghost use Rattle.planes.specs.Places.{Carried, Carries, withPixel, pixelwise, onward, Counted, InPlanes};
+ghost use Rattle.planes.specs.Places.{Carried, Carries, withPixel, pixelwise, Counted, InPlanes};
 ghost use Rattle.planes.specs.Outcome.{convertChecks, toPlanesOutcome, fromPlanesOutcome};
 
 // How far apart two channels of a pixel stand, and one channel of two pixels.
@@ -39,49 +41,25 @@ fn carry(src: &[u8], s: Steps, dst: &mut [u8], d: Steps, from: usize, to: usize)
     }
 }
 
-// Takes 80 pixels apart, those that are read from `from` on, into four planes of 80 bytes.
-fn part(src: &[u8], from: usize, dst: &mut [u8])
-    requires { ⌜ from + 320 ≤ length (now src) ⌝ ∗ ⌜ length (now src) ≤ 17179869184 ⌝ ∗ ⌜ length (now dst) ≡ 320 ⌝ }
-    ensures { λ _. ⌜ Carried (onward from) (pixelwise 80 1) (now (src .entry)) (now (dst .exit)) 320 ⌝ }
-{
-    let mut k = 0;
-    while k < 80 {
-        carry_pixel(src, from + 4 * k, 1, dst, k, 80);
-        k += 1;
-    }
-}
-
-// Lays the bytes from `from` up to `end` over those from `to` on.
-fn lay(src: &[u8], from: usize, end: usize, dst: &mut [u8], to: usize)
-    requires { ⌜ from ≤ end ⌝ ∗ ⌜ end ≤ length (now src) ⌝ ∗ ⌜ length (now src) ≤ 320 ⌝ ∗ ⌜ to + end ≤ length (now dst) + from ⌝ ∗ ⌜ length (now dst) ≤ 17179869184 ⌝ }
-    ensures { λ _. ⌜ Run 0 (now (dst .entry)) (now (dst .exit)) to (end - from) (λ k. getD (now (src .entry)) (from + k) 0) ⌝ }
-{
-    let mut k = 0;
-    while from + k < end {
-        dst[to + k] = src[from + k];
-        k += 1;
-    }
-}
-
 // Takes 80 pixels apart, those from m on, and lays 64 bytes in each plane, plane after plane; the first two planes are 16 bytes ahead of the others.
-fn split_block(src: &[u8], dst: &mut [u8], n: usize, m: usize)
-    requires { ⌜ Counted n (now src) (now dst) ⌝ ∗ ⌜ m + 80 ≤ n ⌝ ∗ ⌜ InPlanes n m 0 (now src) (now dst) ⌝ }
+fn split_block(src: &[u8], dst: &mut [u8], parts: &mut [u8], n: usize, m: usize)
+    requires { ⌜ Counted n (now src) (now dst) ⌝ ∗ ⌜ length (now parts) ≡ 320 ⌝ ∗ ⌜ m + 80 ≤ n ⌝ ∗ ⌜ InPlanes n m 0 (now src) (now dst) ⌝ }
     ensures { λ _. ⌜ InPlanes n (m + 64) 0 (now (src .entry)) (now (dst .exit)) ⌝ }
 {
-    let mut parts = [0u8; 320];
-    part(src, 4 * m, &mut parts);
-    lay(&parts, 16, 80, dst, m + 16);
-    lay(&parts, 96, 160, dst, n + m + 16);
-    lay(&parts, 160, 224, dst, 2 * n + m);
-    lay(&parts, 240, 304, dst, 3 * n + m);
+    take_apart(parts, src, m);
+    copy_run(parts, 16, dst, m + 16, 64);
+    copy_run(parts, 96, dst, n + m + 16, 64);
+    copy_run(parts, 160, dst, 2 * n + m, 64);
+    copy_run(parts, 240, dst, 3 * n + m, 64);
 }
 
-// Takes a picture that no cache holds apart by blocks, from pixel 48 on; answers up to where all pixels are in the planes.
-fn split_blocks(src: &[u8], dst: &mut [u8], n: usize) -> usize
-    requires { ⌜ Counted n (now src) (now dst) ⌝ }
+// Takes a picture apart by blocks, from pixel 48 on; answers up to where all pixels are in the planes. All blocks are lent the same parts:
+// with parts of its own for each, a block takes the compiler's code for AVX2 more steps.
+fn split_blocks(src: &[u8], dst: &mut [u8], parts: &mut [u8], n: usize) -> usize
+    requires { ⌜ Counted n (now src) (now dst) ⌝ ∗ ⌜ length (now parts) ≡ 320 ⌝ }
     ensures { λ r. ⌜ (r ≤ n) × Carried (pixelwise 1 4) (pixelwise n 1) (now (src .entry)) (now (dst .exit)) (4 * r) ⌝ }
 {
-    if n < 2097152 {
+    if n < 64 {
         return 0;
     }
     carry(
@@ -100,7 +78,7 @@ fn split_blocks(src: &[u8], dst: &mut [u8], n: usize) -> usize
     );
     let mut m = 48;
     while m + 80 <= n {
-        split_block(src, dst, n, m);
+        split_block(src, dst, parts, n, m);
         m += 64;
     }
     m
@@ -111,8 +89,9 @@ pub fn split(src: &[u8], dst: &mut [u8], size: FullSize)
     requires { ⌜ Converts size (now src) (now dst) ⌝ }
     ensures { λ _. ⌜ now (dst .exit) ≡ planar (size .w) (size .h) (now (src .entry)) ⌝ }
 {
+    let mut parts = [0u8; 320];
     let n = size.bytes() / 4;
-    let m = split_blocks(src, dst, n);
+    let m = split_blocks(src, dst, &mut parts, n);
     carry(
         src,
         Steps {
@@ -129,12 +108,26 @@ pub fn split(src: &[u8], dst: &mut [u8], size: FullSize)
     );
 }
 
-// Writes the picture of four planes, in one pass over its pixels.
+// Puts a picture together by blocks; answers up to where it is.
+fn join_blocks(src: &[u8], dst: &mut [u8], n: usize) -> usize
+    requires { ⌜ Counted n (now src) (now dst) ⌝ }
+    ensures { λ r. ⌜ (r ≤ n) × Carried (pixelwise n 1) (pixelwise 1 4) (now (src .entry)) (now (dst .exit)) (4 * r) ⌝ }
+{
+    let mut m = 0;
+    while m + 64 <= n {
+        put_together(dst, src, n, m);
+        m += 64;
+    }
+    m
+}
+
+// Writes the picture of four planes: most of it by blocks, and the pixels that are left one by one.
 pub fn join(src: &[u8], dst: &mut [u8], size: FullSize)
     requires { ⌜ Converts size (now src) (now dst) ⌝ }
     ensures { λ _. ⌜ now (dst .exit) ≡ interleaved (size .w) (size .h) (now (src .entry)) ⌝ }
 {
     let n = size.bytes() / 4;
+    let m = join_blocks(src, dst, n);
     carry(
         src,
         Steps {
@@ -146,7 +139,7 @@ pub fn join(src: &[u8], dst: &mut [u8], size: FullSize)
             channel: 1,
             pixel: 4,
         },
-        0,
+        m,
         n,
     );
 }

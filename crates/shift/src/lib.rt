@@ -228,7 +228,7 @@ pub fn wrong_offsets(dx: f32, dy: f32) -> bool
 }
 
 // The first of refusals 1, 2 and 7 that fits, 0 where none does; of the picture's length.
-fn shift_refusal(picture: usize, w: u32, h: u32, dx: f32, dy: f32) -> u32
+pub fn shift_refusal(picture: usize, w: u32, h: u32, dx: f32, dy: f32) -> u32
     ensures { λ r. ⌜ r ≡ firstOf (shiftChecks picture w h dx dy) ⌝ }
 {
     picture::picture_refusal(

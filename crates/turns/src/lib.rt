@@ -1,4 +1,5 @@
 // Lines turned: the first element of each line, then the second of each, up to the last, so that short lines become few long ones.
+use pixels::copy_run;
 ghost use mathlib.Core.Path.{_≡_};
 ghost use Prim.Native.Nat.{ℕ, _+_, _*_, _/_, _%_, _≤_, _<_};
 ghost use lib.ListN.{length, getD};
@@ -26,18 +27,6 @@ fn copy_four(src: &[u8], p: usize, dst: &mut [u8], q: usize)
     dst[q + 3] = d;
 }
 
-// `size` bytes from p on into dst from q on.
-fn copy_bytes(src: &[u8], p: usize, dst: &mut [u8], q: usize, size: usize)
-    requires { ⌜ p + size ≤ length (now src) ⌝ ∗ ⌜ q + size ≤ length (now dst) ⌝ }
-    ensures { λ _. ⌜ Run 0 (now (dst .entry)) (now (dst .exit)) q size (λ k. getD (now (src .entry)) (p + k) 0) ⌝ }
-{
-    let mut k = 0;
-    while k < size {
-        dst[q + k] = src[p + k];
-        k += 1;
-    }
-}
-
 // One element of `size` bytes, from p on, into dst from q on.
 fn copy_element(src: &[u8], p: usize, dst: &mut [u8], q: usize, size: usize)
     requires { ⌜ p + size ≤ length (now src) ⌝ ∗ ⌜ q + size ≤ length (now dst) ⌝ }
@@ -46,7 +35,7 @@ fn copy_element(src: &[u8], p: usize, dst: &mut [u8], q: usize, size: usize)
     if size == 4 {
         copy_four(src, p, dst, q);
     } else {
-        copy_bytes(src, p, dst, q, size);
+        copy_run(src, p, dst, q, size);
     }
 }
 

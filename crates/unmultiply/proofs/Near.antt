@@ -4,9 +4,8 @@ use mathlib.Core.Path.{_≡_, refl, sym, ap, _∙_}
 use mathlib.Core.Logic.{⊎-elim}
 use mathlib.Core.Bool.{not}
 use Prim.Native.Nat.{ℕ, zero, suc, _+_, _-_, _*_, _/_, _^_, _≤_, _<_}
-use native.Mathlib.Nat.{zero-lt-suc, le-trans, le-of-eq, mul-comm, mul-assoc, mul-left-comm, mul-mul-mul-comm, mul-add, add-mul, mul-le-mul-left, mul-le-mul-right, lt-of-mul-lt-mul-right, div-mul-le-self, lt-div-mul-add, div-lt-iff-lt-mul}
+use native.Mathlib.Nat.{zero-lt-suc, le-trans, le-of-eq, mul-comm, mul-assoc, mul-left-comm, mul-mul-mul-comm, mul-add, add-mul, mul-le-mul-left, mul-le-mul-right, lt-of-mul-lt-mul-right}
 use native.Mathlib.Omega.{arith}
-use borrow.Author.Tests.{ne-eqb}
 use lib.Dec.{T, lit≤}
 use lib.IntN.{pos}
 use lib.Ieee.{Float, binary32, add, mul, div, ofInt, toBits, isNan}
@@ -15,7 +14,8 @@ use Rattle.picture.proofs.Spans.{le-or-lt}
 use Rattle.binary32.proofs.Values.{plain, plain-nonneg, plain-of-value, whole-value}
 use Rattle.binary32.proofs.Sums.{even32, alone-told, alone-near}
 use Rattle.composite.proofs.Between.{Grid, Between, mul-between}
-use Rattle.unmultiply.specs.Divided.{divided}
+use Rattle.unmultiply.specs.Outward.{outward}
+use Rattle.unmultiply.proofs.Outward.{at-most, at-least, outward-byte}
 use Rattle.unmultiply.proofs.Scales.{scale, scale-in}
 
 -- the steps of a grid of 1 / 2k around q: the first above q - 1 / 2, and the last below q + 1 / 2
@@ -58,16 +58,10 @@ settled {x} {l} {h} k q low high v =
 
 module _ (c a : ℕ) (low : c ≤ a) (some : 0 < a) (byte : a ≤ 255) where
   abbrev q : ℕ
-  q = (255 * c + a / 2) / a
-
-  q-low : 2 * (q * a) ≤ 510 * c + a
-  q-low = omega (arith, div-mul-le-self (255 * c + a / 2) a)
-
-  q-high : 510 * c + 1 ≤ 2 * (q * a) + a
-  q-high = omega (arith, lt-div-mul-add {a = 255 * c + a / 2} some)
+  q = outward c a
 
   q-most : q ≤ 255
-  q-most = omega (arith, div-lt-iff-lt-mul {x = 255 * c + a / 2} {y = 256} some .1 (omega arith))
+  q-most = omega (arith, outward-byte c a low)
 
   abbrev value : Float
   value = mul binary32 (ofInt binary32 (pos c)) (scale a)
@@ -82,7 +76,7 @@ module _ (c a : ℕ) (low : c ≤ a) (some : 0 < a) (byte : a ≤ 255) where
   -- by a grid on which q and a half is a value, and c is not too little for a step
   by-grid : (k l h : ℕ) → Grid (2 * k) → h < 2 ^ 24 → 2 * (k * q) + 1 ≤ l + k → h + 1 ≡ 2 * (k * q) + k → l * (1 * (2048 * a)) ≤ c * 522241 * (2 * k) → 6 * (k * c) + 2048 * a ≤ 2048 * k → Near value q
   by-grid k l h G H u o m n =
-      settled k q u (le-of-eq o) (mul-between channel-in (scale-in a some byte) G l h (omega arith) H (record { le = m }) (record { le = step-high k q a c h o q-high n }))
+      settled k q u (le-of-eq o) (mul-between channel-in (scale-in a some byte) G l h (omega arith) H (record { le = m }) (record { le = step-high k q a c h o (at-least c a some) n }))
 
   -- c is not too little for a step where q is not too little for the grid
   enough : (k w : ℕ) → w + 1 ≡ 2 * q → 522240 ≤ k * w → 1024 * a ≤ k * c
@@ -94,12 +88,12 @@ module _ (c a : ℕ) (low : c ≤ a) (some : 0 < a) (byte : a ≤ 255) where
       one n = omega arith
 
       less : w * a + a ≡ 2 * (q * a) → w * a ≤ 510 * c
-      less p = omega (arith, q-low)
+      less p = omega (arith, at-most c a some)
 
   -- where q is at least 1 and not too little for the grid
   above-grid : (k : ℕ) → Grid (2 * k) → 0 < k → k ≤ 2 * (k * q) → 522240 ≤ k * (2 * q - 1) → 1 ≤ q → 2 * (k * q) + k - 1 < 2 ^ 24 → 6 * (k * c) + 2048 * a ≤ 2048 * k → Near value q
   above-grid k G p r w o H n =
-      by-grid k (2 * (k * q) + 1 - k) (2 * (k * q) + k - 1) G H (omega arith) (omega arith) (step-low k q a c (2 * (k * q) + 1 - k) (omega arith) q-low (enough k (2 * q - 1) (omega arith) w)) n
+      by-grid k (2 * (k * q) + 1 - k) (2 * (k * q) + k - 1) G H (omega arith) (omega arith) (step-low k q a c (2 * (k * q) + 1 - k) (omega arith) (at-most c a some) (enough k (2 * q - 1) (omega arith) w)) n
 
   pub is-near : Near value q
   is-near =
@@ -134,10 +128,10 @@ none : T (not (isNan (read 0 0))) × (toBits binary32 (read 0 0) ≡ 1258291200)
 unfolding scale isNan add mul ofInt div toBits
 none = (tt, refl)
 
-pub reads : (c a : ℕ) → c ≤ a → a ≤ 255 → T (not (isNan (read c a))) × (toBits binary32 (read c a) ≡ 1258291200 + divided c a)
-unfolding divided
+pub reads : (c a : ℕ) → c ≤ a → a ≤ 255 → T (not (isNan (read c a))) × (toBits binary32 (read c a) ≡ 1258291200 + outward c a)
+unfolding outward
 reads zero zero l b = none
 reads (suc c) zero l b = absurd (omega arith)
 reads c (suc a) l b =
     let some : 0 < suc a = omega arith in
-    rw (ne-eqb (suc a) 0 (λ e. let z : ⊥ = omega arith in z)) (near-bits (value c (suc a) l some b) (q c (suc a) l some b) (q-most c (suc a) l some b) (is-near c (suc a) l some b))
+    near-bits (value c (suc a) l some b) (q c (suc a) l some b) (q-most c (suc a) l some b) (is-near c (suc a) l some b)

@@ -14,9 +14,9 @@ use Rattle.vector_values.specs.Values.{byteOf, floatOf}
 abbrev pub numberAt : List ℕ → ℕ → ℕ → ℕ → ℕ
 numberAt v at n i = cond (ltb i n) (getD v (at + i) 0) 0
 
--- such a buffer, of 512 numbers
+-- such a buffer, of 2048 numbers
 abbrev pub numbersFrom : List ℕ → ℕ → ℕ → List ℕ
-numbersFrom v at n = build 512 (numberAt v at n)
+numbersFrom v at n = build 2048 (numberAt v at n)
 
 -- its numbers as bytes
 abbrev pub bytesFrom : List ℕ → ℕ → ℕ → List ℕ
@@ -38,8 +38,8 @@ abbrev pub workByte : ℕ → ℕ → ℕ
 workByte zeros i = cond (ltb i zeros) 0 (i % 251 + 1)
 
 abbrev pub workOf : ℕ → List ℕ
-workOf zeros = build 512 (workByte zeros)
+workOf zeros = build 2048 (workByte zeros)
 
 -- a work buffer of which exactly the first bytes are cleared, and the others are as they were filled
 abbrev pub clearedWork : ℕ → List ℕ → Type 0
-clearedWork zeros work = (zeros ≤ 512) × (work ≡ workOf zeros)
+clearedWork zeros work = (zeros ≤ 2048) × (work ≡ workOf zeros)

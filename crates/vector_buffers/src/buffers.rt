@@ -35,7 +35,7 @@ fn fill_numbers(to: &mut [u64], v: &[u64], at: usize, n: usize)
 pub fn numbers_from(v: &[u64], at: usize, n: usize) -> [u64; LONGEST]
     requires { ⌜ at + n ≤ length (now v) ⌝ }
     ensures { λ r. ⌜ r ≡ numbersFrom (now (v .entry)) at n ⌝ }
-    ensures { λ r. ⌜ 512 ≡ length r ⌝ }
+    ensures { λ r. ⌜ 2048 ≡ length r ⌝ }
 {
     let mut to = [0u64; LONGEST];
     fill_numbers(&mut to, v, at, n);
@@ -56,7 +56,7 @@ fn fill_bytes(to: &mut [u8], v: &[u64])
 fn bytes_from(v: &[u64], at: usize, n: usize) -> [u8; LONGEST]
     requires { ⌜ at + n ≤ length (now v) ⌝ }
     ensures { λ r. ⌜ r ≡ bytesFrom (now (v .entry)) at n ⌝ }
-    ensures { λ r. ⌜ 512 ≡ length r ⌝ }
+    ensures { λ r. ⌜ 2048 ≡ length r ⌝ }
 {
     let numbers = numbers_from(v, at, n);
     let mut to = [0u8; LONGEST];
@@ -68,7 +68,7 @@ fn bytes_from(v: &[u64], at: usize, n: usize) -> [u8; LONGEST]
 pub fn bytes(v: &[u64], p: Part) -> [u8; LONGEST]
     requires { ⌜ PartWithin (now v) p ⌝ }
     ensures { λ r. ⌜ r ≡ bytesBefore (now (v .entry)) p ⌝ }
-    ensures { λ r. ⌜ 512 ≡ length r ⌝ }
+    ensures { λ r. ⌜ 2048 ≡ length r ⌝ }
 {
     bytes_from(v, p.before, p.count)
 }
@@ -102,7 +102,7 @@ fn fill_work(to: &mut [u8], zeros: usize)
 // A work buffer: as before a call at 0, and as a call leaves it that clears its first bytes.
 pub fn work(zeros: usize) -> [u8; LONGEST]
     ensures { λ r. ⌜ r ≡ workOf zeros ⌝ }
-    ensures { λ r. ⌜ 512 ≡ length r ⌝ }
+    ensures { λ r. ⌜ 2048 ≡ length r ⌝ }
 {
     let mut to = [0u8; LONGEST];
     fill_work(&mut to, zeros);
@@ -113,7 +113,7 @@ pub fn work(zeros: usize) -> [u8; LONGEST]
 pub fn work_left(zeros: u64, found: &[u8; LONGEST]) -> bool
     ensures { λ r. ⌜ tells r (clearedWork zeros (now (found .entry))) ⌝ }
 {
-    if 512 < zeros {
+    if 2048 < zeros {
         return false;
     }
     let wanted = work(zeros as usize);
@@ -135,7 +135,7 @@ fn fill_floats(to: &mut [f32], v: &[u64])
 pub fn floats(v: &[u64], p: Part) -> [f32; LONGEST]
     requires { ⌜ PartWithin (now v) p ⌝ }
     ensures { λ r. ⌜ r ≡ floatsBefore (now (v .entry)) p ⌝ }
-    ensures { λ r. ⌜ 512 ≡ length r ⌝ }
+    ensures { λ r. ⌜ 2048 ≡ length r ⌝ }
 {
     let numbers = numbers_from(v, p.before, p.count);
     let mut to = [0.0f32; LONGEST];

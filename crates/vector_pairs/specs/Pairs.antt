@@ -10,6 +10,6 @@ use Rattle.vector_buffers.specs.Buffers.{numbersFrom}
 abbrev pub pairIn : List ℕ → ℕ → List ℕ
 pairIn numbers i = wordOf (getD numbers (i * 2) 0) ∷ wordOf (getD numbers (i * 2 + 1) 0) ∷ []
 
--- numbers of a vector from a place on, as 256 pairs
+-- numbers of a vector from a place on, as 1024 pairs
 abbrev pub pairsFrom : List ℕ → ℕ → ℕ → List (List ℕ)
-pairsFrom v at n = map (pairIn (numbersFrom v at n)) (build 256 (λ i. i))
+pairsFrom v at n = map (pairIn (numbersFrom v at n)) (build 1024 (λ i. i))

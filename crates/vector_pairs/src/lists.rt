@@ -12,7 +12,7 @@ ghost use Rattle.vector_parts.specs.Parts.{PartWithin};
 ghost use Rattle.vector_pairs.specs.Pairs.{pairIn, pairsFrom};
 
 // The most pairs of a list.
-pub const MOST_PAIRS: usize = 256;
+pub const MOST_PAIRS: usize = 1024;
 
 fn pair_in(numbers: &[u64], i: usize) -> [u32; 2]
     requires { ⌜ i * 2 + 1 < length (now numbers) ⌝ }
@@ -36,7 +36,7 @@ fn fill_pairs(to: &mut [[u32; 2]], numbers: &[u64])
 fn pairs_from(v: &[u64], at: usize, n: usize) -> [[u32; 2]; MOST_PAIRS]
     requires { ⌜ at + n ≤ length (now v) ⌝ }
     ensures { λ r. ⌜ r ≡ pairsFrom (now (v .entry)) at n ⌝ }
-    ensures { λ r. ⌜ 256 ≡ length r ⌝ }
+    ensures { λ r. ⌜ 1024 ≡ length r ⌝ }
 {
     let numbers = buffers::numbers_from(v, at, n);
     let mut to = [[0u32; 2]; MOST_PAIRS];
@@ -48,7 +48,7 @@ fn pairs_from(v: &[u64], at: usize, n: usize) -> [[u32; 2]; MOST_PAIRS]
 pub fn pairs(v: &[u64], p: Part) -> [[u32; 2]; MOST_PAIRS]
     requires { ⌜ PartWithin (now v) p ⌝ }
     ensures { λ r. ⌜ r ≡ pairsFrom (now (v .entry)) (p .before) (p .count) ⌝ }
-    ensures { λ r. ⌜ 256 ≡ length r ⌝ }
+    ensures { λ r. ⌜ 1024 ≡ length r ⌝ }
 {
     pairs_from(v, p.before, p.count)
 }

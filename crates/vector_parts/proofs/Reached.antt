@@ -15,15 +15,15 @@ none-within v = record { reached = omega arith; left = omega arith; few = omega 
 
 pub counted-within : (v : List ℕ) (at : ℕ) → PartWithin v (countedAt v at)
 unfolding countedAt
-counted-within v at = go (ltb at (length v)) (not (eqb at 0)) (leb (getD v at 0) 512) (leb (getD v at 0) (length v - (at + 1))) refl refl refl
+counted-within v at = go (ltb at (length v)) (not (eqb at 0)) (leb (getD v at 0) 2048) (leb (getD v at 0) (length v - (at + 1))) refl refl refl
   where
     made : Part
     made = record { count = getD v at 0; before = at + 1; after = at + 1; end = at + 1 + getD v at 0 }
 
-    go : (a b d e : Bool) → ltb at (length v) ≡ a → leb (getD v at 0) 512 ≡ d → leb (getD v at 0) (length v - (at + 1)) ≡ e
+    go : (a b d e : Bool) → ltb at (length v) ≡ a → leb (getD v at 0) 2048 ≡ d → leb (getD v at 0) (length v - (at + 1)) ≡ e
         → PartWithin v (cond ((a && b) && (d && e)) made noPart)
     go true true true true h k l =
-        let m = leb-true (getD v at 0) 512 k in
+        let m = leb-true (getD v at 0) 2048 k in
         let i = ltb-true at (length v) h in
         let r = leb-true (getD v at 0) (length v - (at + 1)) l in
         record { reached = omega arith; left = omega arith; few = omega arith }

@@ -14,10 +14,10 @@ noPart = record { count = 0; before = 0; after = 0; end = 0 }
 abbrev pub standsAt : List ℕ → ℕ → Bool
 standsAt v at = ltb at (length v) && not (eqb at 0)
 
--- a count, at most 512, and as many numbers, which the call does not change
+-- a count, at most 2048, and as many numbers, which the call does not change
 unfoldable pub countedAt : List ℕ → ℕ → Part
 countedAt v at =
-    cond (standsAt v at && (leb (getD v at 0) 512 && leb (getD v at 0) (length v - (at + 1))))
+    cond (standsAt v at && (leb (getD v at 0) 2048 && leb (getD v at 0) (length v - (at + 1))))
     (record { count = getD v at 0; before = at + 1; after = at + 1; end = at + 1 + getD v at 0 })
     noPart
 
@@ -52,4 +52,4 @@ otherPart v = nextPart v (bytesPart v)
 pub record PartWithin (v : List ℕ) (p : Part) : Type 0 where
   pub reached : p .before + p .count ≤ length v
   pub left : p .after + p .count ≤ length v
-  pub few : p .count ≤ 512
+  pub few : p .count ≤ 2048

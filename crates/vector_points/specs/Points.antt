@@ -9,6 +9,6 @@ use Rattle.vector_buffers.specs.Buffers.{numbersFrom}
 abbrev pub pointIn : List ℕ → ℕ → List ℕ
 pointIn numbers i = getD numbers (i * 2) 0 ∷ getD numbers (i * 2 + 1) 0 ∷ []
 
--- numbers of a vector from a place on, as 256 points
+-- numbers of a vector from a place on, as 1024 points
 abbrev pub storedPoints : List ℕ → ℕ → ℕ → List (List ℕ)
-storedPoints v at n = map (pointIn (numbersFrom v at n)) (build 256 (λ i. i))
+storedPoints v at n = map (pointIn (numbersFrom v at n)) (build 1024 (λ i. i))

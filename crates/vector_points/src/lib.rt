@@ -11,7 +11,7 @@ ghost use Rattle.vector_parts.specs.Parts.{PartWithin};
 ghost use Rattle.vector_points.specs.Points.{pointIn, storedPoints};
 
 // The most points of a list.
-pub const MOST_POINTS: usize = 256;
+pub const MOST_POINTS: usize = 1024;
 
 fn point_in(numbers: &[u64], i: usize) -> [u64; 2]
     requires { ⌜ i * 2 + 1 < length (now numbers) ⌝ }
@@ -35,7 +35,7 @@ fn fill_points(to: &mut [[u64; 2]], numbers: &[u64])
 fn points_from(v: &[u64], at: usize, n: usize) -> [[u64; 2]; MOST_POINTS]
     requires { ⌜ at + n ≤ length (now v) ⌝ }
     ensures { λ r. ⌜ r ≡ storedPoints (now (v .entry)) at n ⌝ }
-    ensures { λ r. ⌜ 256 ≡ length r ⌝ }
+    ensures { λ r. ⌜ 1024 ≡ length r ⌝ }
 {
     let numbers = buffers::numbers_from(v, at, n);
     let mut to = [[0u64; 2]; MOST_POINTS];
@@ -47,7 +47,7 @@ fn points_from(v: &[u64], at: usize, n: usize) -> [[u64; 2]; MOST_POINTS]
 pub fn points(v: &[u64], p: Part) -> [[u64; 2]; MOST_POINTS]
     requires { ⌜ PartWithin (now v) p ⌝ }
     ensures { λ r. ⌜ r ≡ storedPoints (now (v .entry)) (p .before) (p .count) ⌝ }
-    ensures { λ r. ⌜ 256 ≡ length r ⌝ }
+    ensures { λ r. ⌜ 1024 ≡ length r ⌝ }
 {
     points_from(v, p.before, p.count)
 }

@@ -31,7 +31,7 @@ byteOf x = x % 256
 
 -- a length that a buffer has room for, or 0
 abbrev pub lengthOf : ℕ → ℕ
-lengthOf x = cond (ltb 512 x) 0 x
+lengthOf x = cond (ltb 2048 x) 0 x
 
 -- each number is below a bound
 unfoldable pub allUnder : List ℕ → ℕ → Bool

@@ -34,7 +34,7 @@ pub fn float(v: &[u64], i: usize) -> f32
 // The number at a place as the length of a buffer, or 0 where no buffer is as long.
 pub fn length(v: &[u64], i: usize) -> usize
     ensures { λ r. ⌜ r ≡ lengthOf (getD (now (v .entry)) i 0) ⌝ }
-    ensures { λ r. ⌜ r ≤ 512 ⌝ }
+    ensures { λ r. ⌜ r ≤ 2048 ⌝ }
 {
     let n = number(v, i) as usize;
     if LONGEST < n { 0 } else { n }

@@ -6,11 +6,11 @@ ghost use lib.Dec.{ltb};
 ghost use Rattle.vector_values.specs.Numerals.{digitOf, pick, numeralAt, valueIn, lineEnd};
 
 // The most numbers of a line.
-pub const MOST_NUMBERS: usize = 4096;
+pub const MOST_NUMBERS: usize = 8192;
 
 // A buffer for the numbers of a line. Only its length is promised, as of `io::buffer`.
 pub fn buffer() -> [u64; MOST_NUMBERS]
-    ensures { λ r. ⌜ 4096 ≡ length r ⌝ }
+    ensures { λ r. ⌜ 8192 ≡ length r ⌝ }
 {
     [0; MOST_NUMBERS]
 }

@@ -3,7 +3,7 @@ ghost use mathlib.Core.Path.{_≡_};
 ghost use Rattle.vector_values.specs.Values.{wordOf, halfOf, floatOf, byteOf, signedOf, allUnder};
 
 // The longest buffer of a vector.
-pub const LONGEST: usize = 512;
+pub const LONGEST: usize = 2048;
 
 // The number of 32 bits.
 pub fn word(x: u64) -> u32

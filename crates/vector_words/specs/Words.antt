@@ -4,6 +4,6 @@ use Prim.Native.Nat.{ℕ}
 use Rattle.vector_values.specs.Values.{wordOf}
 use Rattle.vector_buffers.specs.Buffers.{numbersFrom}
 
--- numbers of a vector from a place on, as 512 words
+-- numbers of a vector from a place on, as 2048 words
 abbrev pub wordsFrom : List ℕ → ℕ → ℕ → List ℕ
 wordsFrom v at n = map wordOf (numbersFrom v at n)

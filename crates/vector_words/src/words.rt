@@ -25,7 +25,7 @@ fn fill_words(to: &mut [u32], v: &[u64])
 fn words_from(v: &[u64], at: usize, n: usize) -> [u32; LONGEST]
     requires { ⌜ at + n ≤ length (now v) ⌝ }
     ensures { λ r. ⌜ r ≡ wordsFrom (now (v .entry)) at n ⌝ }
-    ensures { λ r. ⌜ 512 ≡ length r ⌝ }
+    ensures { λ r. ⌜ 2048 ≡ length r ⌝ }
 {
     let numbers = buffers::numbers_from(v, at, n);
     let mut to = [0u32; LONGEST];
@@ -37,7 +37,7 @@ fn words_from(v: &[u64], at: usize, n: usize) -> [u32; LONGEST]
 pub fn words(v: &[u64], p: Part) -> [u32; LONGEST]
     requires { ⌜ PartWithin (now v) p ⌝ }
     ensures { λ r. ⌜ r ≡ wordsFrom (now (v .entry)) (p .before) (p .count) ⌝ }
-    ensures { λ r. ⌜ 512 ≡ length r ⌝ }
+    ensures { λ r. ⌜ 2048 ≡ length r ⌝ }
 {
     words_from(v, p.before, p.count)
 }

@@ -16,7 +16,7 @@ fn head_fits(v: &[u64]) -> bool
     if !range_under(v, 0, 19, 4294967296) {
         return false;
     }
-    if !range_under(v, 15, 2, 513) {
+    if !range_under(v, 15, 2, 2049) {
         return false;
     }
     range_under(v, 22, 3, 4294967296)

@@ -183,6 +183,23 @@ const LEAKS: [Wrong; 2] = [
     ("four planes side by side", |case| as_one(case, case.w.saturating_mul(4), case.h)),
 ];
 
+/// A mistake of planes of 256 bytes and more to a row alone, which are blurred where they lie.
+fn if_wide(case: &Case, wrong: impl Fn(&Case) -> Outcome) -> Outcome {
+    if case.w >= 256 && lawful(case).answer == 0 {
+        wrong(case)
+    } else {
+        lawful(case)
+    }
+}
+
+/// The mistakes of the blur where planes lie.
+const WIDE: [Wrong; 4] = [
+    ("wide: one tall plane", |case| if_wide(case, LEAKS[0].1)),
+    ("wide: four planes side by side", |case| if_wide(case, LEAKS[1].1)),
+    ("wide: never decimated", |case| if_wide(case, |case| lawful(&Case { n: 0, ..case.clone() }))),
+    ("wide: every mode Duplicate", |case| if_wide(case, |case| lawful(&Case { edge: 0, ..case.clone() }))),
+];
+
 /// The mistakes of those that are lent a scratch.
 const SCRATCHES: [Wrong; 4] = [
     ("a plane of scratch cleared", |case| {
@@ -234,7 +251,7 @@ fn all() -> Vec<(Entry, Vec<Wrong>)> {
     vec![
         (Entry::ToPlanes, CONVERSIONS.to_vec()),
         (Entry::FromPlanes, CONVERSIONS.to_vec()),
-        (Entry::BlurPlanes, [&WORK[..], &LEAKS, &SCRATCHES].concat()),
+        (Entry::BlurPlanes, [&WORK[..], &LEAKS, &WIDE, &SCRATCHES].concat()),
         (Entry::ShiftPlanes, [&WORK[..], &LEAKS].concat()),
         (Entry::ShadowPlanes, [&WORK[..], &SCRATCHES, &SHADOWS].concat()),
     ]

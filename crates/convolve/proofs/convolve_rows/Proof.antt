@@ -47,6 +47,9 @@ returns c =
     let e : a .w ≡ 1 = t .before .before .before .if1 .taken in
     rw e (t .convolve-lines .ensures ∙ sym (one-wide (convolve (a .mode) (now (a .weights))) (convolve-local (a .mode) (now (a .weights))) (now (a .picture)) (a .lines) (a .lanes)))
 
+returns-3 : tie.Need-returns-3
+returns-3 c = c .before .before .convolve-lines2 .ensures
+
 pub convolve-rows-spec : {M : Type 1} → statement M
 convolve-rows-spec =
     tie.close
@@ -64,4 +67,4 @@ convolve-rows-spec =
     (λ c. search needs)
     (λ c. search needs)
     (λ c. search needs)
-    (λ c. search needs))
+    returns-3)

@@ -14,13 +14,13 @@ returns : tie.Need-returns
 unfolding blurPlanesOutcome
 returns c =
     let f = c .if1 .taken in
-    rw (c .before .blur-planes-refusal .ensures) (refused _ _ _ (λ e. f (c .before .blur-planes-refusal .ensures ∙ e)))
+    rw (c .before .blur-refusal .ensures) (refused _ _ _ (λ e. f (c .before .blur-refusal .ensures ∙ e)))
 
 -- nothing was refused
 fine : (c : tie.Else1) → let a = c .before .before .before .before .before .args in (wrongSides (a .w) (a .h) ≡ false) × BlurAccepted (a .w) (a .h) (a .planes .now) (a .scratch .now) (a .weights .now)
 fine c =
     let a = c .before .before .before .before .before .args in
-    accepted (a .planes .now) (a .w) (a .h) (a .scratch .now) (a .weights .now) (a .n) (a .strength) (a .edge) (sym (c .if1 .left) ∙ c .before .blur-planes-refusal .ensures)
+    accepted (a .planes .now) (a .w) (a .h) (a .scratch .now) (a .weights .now) (a .n) (a .strength) (a .edge) (sym (c .if1 .left) ∙ c .before .blur-refusal .ensures)
 
 full-size-requires : tie.Need-full-size-requires
 full-size-requires c κs = fine c .0
@@ -33,7 +33,7 @@ unfolding blurPlanesOutcome
 returns-2 c =
     let v = c .before .before .before .before in
     let e = v .before .before .before .before .before in
-    let zero = sym (e .before .blur-planes-refusal .ensures) ∙ e .if1 .left in
+    let zero = sym (e .before .blur-refusal .ensures) ∙ e .if1 .left in
     rw (v .blur-planes-accepted .ensures, v .before .before .before .before .full-size .ensures, v .before .before .before .edge-mode .ensures) (done _ _ _ zero)
 
 pub blur-planes-spec : {M : Type 1} → statement M

@@ -10,15 +10,15 @@ returns c =
     let three = four .before .before .before .before .before in
     let two = three .before .before .before .before .before in
     let one = two .before .before .before .before .before in
-    let parted = one .before .before .before .before in
-    let st = parted .before .before .before .before in
-    block-split (st .args .n) (st .args .m) (st .args .src .now) (st .pre .1 .0) (parted .part .last .1 .1 .0) (parted .part .ensures) _ _ _ _ _ (st .pre .1 .1) (one .lay .ensures) (two .lay2 .ensures) (three .lay3 .ensures) (four .lay4 .ensures)
+    let parted = one .before .before .before .before .before in
+    let st = parted .before .before .before .before .before in
+    block-split (st .args .n) (st .args .m) (st .args .src .now) (st .pre .1 .1 .0) _ (parted .take-apart .ensures) _ _ _ _ _ (st .pre .1 .1 .1) (one .copy-run .ensures) (two .copy-run2 .ensures) (three .copy-run3 .ensures) (four .copy-run4 .ensures)
 
 pub split-block-spec : {M : Type 1} → statement M
 split-block-spec =
     tie.close
     (tie.spec
-    (λ c. search needs)
+    (λ c κs. search needs)
     (λ c. search needs)
     (λ c κs. search needs)
     (λ c. search needs)
@@ -26,15 +26,10 @@ split-block-spec =
     (λ c κs. search needs)
     (λ c. search needs)
     (λ c. search needs)
-    (λ c. search needs)
     (λ c κs. search needs)
     (λ c. search needs)
     (λ c. search needs)
-    (λ c. search needs)
     (λ c κs. search needs)
     (λ c. search needs)
-    (λ c. search needs)
-    (λ c. search needs)
-    (λ c κs. search needs)
     (λ c. search needs)
     returns)

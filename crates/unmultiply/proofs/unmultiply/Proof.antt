@@ -5,7 +5,7 @@ use Prim.Native.Nat.{_+_}
 use native.Mathlib.Omega.{arith}
 use lib.Dec.{T, le→leb}
 use lib.Ieee.{binary32, ofBits, toBits, isNan, inFloat}
-use Rattle.unmultiply.specs.Divided.{divided}
+use Rattle.unmultiply.specs.Outward.{outward}
 use Rattle.unmultiply.proofs.Scales.{scale}
 use Rattle.unmultiply.proofs.Near.{read, reads}
 use Rattle.unmultiply.proofs.unmultiply.Statement.{statement}
@@ -21,7 +21,7 @@ int-to-float-result c = le→leb (c .before .before .args .c) 16777216 (omega ar
 
 -- the sum is a number, and its bits tell the channel
 module _ (s : tie.Start) where
-  told : T (not (isNan (read (s .args .c) (s .args .a)))) × (toBits binary32 (read (s .args .c) (s .args .a)) ≡ 1258291200 + divided (s .args .c) (s .args .a))
+  told : T (not (isNan (read (s .args .c) (s .args .a)))) × (toBits binary32 (read (s .args .c) (s .args .a)) ≡ 1258291200 + outward (s .args .c) (s .args .a))
   told = reads (s .args .c) (s .args .a) (s .pre .0) (s .pre .1)
 
 float-to-bits-result : tie.Need-float-to-bits-result

@@ -1,4 +1,4 @@
--- Past checks 1 and 2 a count of 0 says that every place passes.
+-- Past checks 1 and 2, where none is counted every place passes.
 use mathlib.Core.Path.{_≡_, sym, ap, subst, _∙_}
 use mathlib.Core.Bool.{Bool, true, false, true≢false}
 use Prim.Native.Nat.{ℕ, _*_, _/_}
@@ -39,8 +39,8 @@ bytes-requires c κs = subst FullSized (sym (c .full-size .ensures)) (full-sized
 size-is : (c : tie.After-bytes) → let a = c .before .before .before .before .before .before .before .args in c .bytes .result ≡ bytesOf (a .w) (a .h)
 size-is c = c .bytes .ensures ∙ ap fullBytes (c .before .full-size .ensures)
 
-count-exceeding-requires : tie.Need-count-exceeding-requires
-count-exceeding-requires c κs = omega (arith, size-is c, right-length _ _ _ .0 (exact (c .before .before)))
+none-exceeds-requires : tie.Need-none-exceeds-requires
+none-exceeds-requires c κs = omega (arith, size-is c, right-length _ _ _ .0 (exact (c .before .before)))
 
 returns-3 : tie.Need-returns-3
 returns-3 c e =
@@ -48,7 +48,7 @@ returns-3 c e =
     let a = past .before .before .before .before .before .args in
     let picture = a .picture .now in
     let all : c .before .bytes .result / 4 ≡ a .w * a .h = omega (arith, size-is (c .before)) in
-    let none-fails : howMany (exceedsAt picture) (a .w * a .h) ≡ 0 = ap (howMany (exceedsAt picture)) (sym all) ∙ sym (c .count-exceeding .ensures) ∙ eqb-true _ 0 e in
+    let none-fails : howMany (exceedsAt picture) (a .w * a .h) ≡ 0 = ap (howMany (exceedsAt picture)) (sym all) ∙ eqb-true _ 0 (sym (c .none-exceeds .ensures) ∙ e) in
     record { sides = sides (past .before .before); exact = exact past; scan = finds-none picture (a .w) (a .h) (none-many (exceedsAt picture) (a .w * a .h) none-fails) }
 
 pub passes-spec : {M : Type 1} → statement M
@@ -61,5 +61,5 @@ passes-spec =
     (λ c e. no e)
     full-size-requires
     bytes-requires
-    count-exceeding-requires
+    none-exceeds-requires
     returns-3)

@@ -11,7 +11,8 @@ use Rattle.picture.specs.declared.FullSize.{FullSize}
 use Rattle.picture.proofs.Sizes.{whole}
 use Rattle.pam_format.specs.Header.{header, writtenAt}
 use Rattle.pam_format.proofs.Lines.{Begun, more, part-is}
-use Rattle.pam_convert.specs.Straight.{outward, exported}
+use Rattle.unmultiply.specs.Outward.{outward}
+use Rattle.pam_convert.specs.Straight.{exported}
 use Rattle.pam.specs.Export.{exportAnswer}
 use Rattle.pam.specs.declared.writing.Exported.the-variants.{Written}
 use Rattle.pam_convert.specs.Needs.{Passing}

@@ -1,25 +1,46 @@
--- All bytes are those of the picture inward.
-use mathlib.Core.Path.{sym, ap, _∙_}
-use mathlib.Core.Bool.{true≢false}
-use Prim.Native.Nat.{ℕ}
+-- The opaque pixels in front and the rest are the picture inward.
+use mathlib.Core.Path.{_≡_, sym}
+use mathlib.Core.Bool.{false, true≢false}
+use Prim.Native.Nat.{_%_}
 use native.Mathlib.Omega.{arith}
 use borrow.Author.Needs.{needs}
-use Rattle.picture.specs.Build.{build}
-use Rattle.pixels.specs.Channels.{premultiply}
-use Rattle.pam_convert.specs.Straight.{anewAt}
-use Rattle.pam_convert.proofs.Anew.{all-anew}
+use lib.ListN.{length}
+use Rattle.pam_convert.proofs.Fronted.{left, fronted}
 use Rattle.pam_convert.proofs.bodies.read_body.Statement.{statement}
 use Rattle.pam_convert.proofs.bodies.read_body.Tie as tie
 
+module _ (s : tie.Start) where
+  pixels : length (s .args .picture .now) % 4 ≡ 0
+  pixels = omega (arith, s .pre .1)
+
+  same : length (s .args .body .now) ≡ length (s .args .picture .now)
+  same = omega (arith, s .pre .0 .exact, s .pre .1)
+
 convert-requires : tie.Need-convert-requires
-convert-requires c κs = let s = c .before .before .before in (omega (arith, s .pre .0 .exact, s .pre .1), (omega (arith, s .pre .1), λ e. absurd (true≢false (sym e))))
+convert-requires c κs =
+    let copy = c .before .before .before .before in
+    let s = copy .before .before .before .before in
+    let rest =
+    left false (copy .copy-opaque .ensures) (pixels s) (same s) (λ e. absurd (true≢false (sym e))) in
+    (rest .0, (rest .1, rest .2))
 
 returns : tie.Need-returns
 returns c =
-    let s = c .before .before .before .before .before .before in
-    c .before .before .convert .ensures
-    ∙ ap (λ (n : ℕ). build n (anewAt premultiply (s .args .body .now))) (s .pre .1)
-    ∙ all-anew premultiply (s .args .size .w) (s .args .size .h) (s .args .body .now)
+    let copy = c .before .before .before .before .before .before .before in
+    let s = copy .before .before .before .before in
+    fronted false (copy .copy-opaque .ensures) (pixels s) (same s) (s .args .size .w) (s .args .size .h) _ (s .pre .1) (c .before .before .convert .ensures)
 
 pub read-body-spec : {M : Type 1} → statement M
-read-body-spec = tie.close (tie.spec convert-requires (λ c. search needs) returns)
+read-body-spec =
+    tie.close
+    (tie.spec
+    (λ c κs. search needs)
+    (λ c. search needs)
+    (λ c. search needs)
+    (λ c. search needs)
+    (λ c. search needs)
+    (λ c. search needs)
+    (λ c. search needs)
+    convert-requires
+    (λ c. search needs)
+    returns)

@@ -1,12 +1,13 @@
 -- Each channel is divided by the alpha, and so a byte.
-use mathlib.Core.Path.{_≡_, _∙_}
+use mathlib.Core.Path.{_≡_}
 use Prim.Native.Nat.{ℕ, _/_, _%_, _≤_, _<_}
 use native.Mathlib.Omega.{arith}
 use borrow.Author.Needs.{needs}
 use Rattle.grading.proofs.Scanned.{below-alpha}
 use Rattle.counting.specs.Words.{unpacked}
-use Rattle.pam_convert.specs.Straight.{outward, newWord}
-use Rattle.pam_convert.proofs.Straight.{divided-is, outward-byte}
+use Rattle.unmultiply.specs.Outward.{outward}
+use Rattle.unmultiply.proofs.Outward.{outward-byte}
+use Rattle.pam_convert.specs.Straight.{newWord}
 use Rattle.pam_convert.proofs.words.straight_word.Statement.{statement}
 use Rattle.pam_convert.proofs.words.straight_word.Tie as tie
 
@@ -29,13 +30,13 @@ module _ (c : tie.After-unmultiply3) where
   word = c .before .before .before .args .word
 
   red : c .before .before .unmultiply .result ≡ outward (word % 256) (word / 16777216 % 256)
-  red = c .before .before .unmultiply .ensures ∙ divided-is _ _
+  red = c .before .before .unmultiply .ensures
 
   green : c .before .unmultiply2 .result ≡ outward (word / 256 % 256) (word / 16777216 % 256)
-  green = c .before .unmultiply2 .ensures ∙ divided-is _ _
+  green = c .before .unmultiply2 .ensures
 
   blue : c .unmultiply3 .result ≡ outward (word / 65536 % 256) (word / 16777216 % 256)
-  blue = c .unmultiply3 .ensures ∙ divided-is _ _
+  blue = c .unmultiply3 .ensures
 
   bytes : (c .before .before .unmultiply .result < 256) × (c .before .unmultiply2 .result < 256) × (c .unmultiply3 .result < 256)
   bytes =

@@ -1,0 +1,3 @@
+-- Laws of blocks of pixels in halves of words.
+pub mod Taken
+pub mod Joined

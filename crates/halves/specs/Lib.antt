@@ -1,0 +1,2 @@
+-- The bytes of a block of pixels, apart and together.
+pub mod Blocks

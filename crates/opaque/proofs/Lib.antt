@@ -1,0 +1,2 @@
+-- Laws of opaque pixels in front.
+pub mod Fronts

@@ -1,0 +1,2 @@
+-- What a copy of the opaque pixels in front leaves.
+pub mod Front

@@ -1,8 +1,0 @@
--- A channel divided by its alpha.
-use mathlib.Core.Bool.{cond}
-use Prim.Native.Nat.{ℕ, _+_, _*_, _/_}
-use lib.Dec.{eqb}
-
--- floor((255·c + floor(a/2)) / a), or 0 when a is 0
-unfoldable pub divided : ℕ → ℕ → ℕ
-divided c a = cond (eqb a 0) 0 ((255 * c + a / 2) / a)
