@@ -3,7 +3,7 @@ use mathlib.Core.Path.{_≡_, refl, sym, ap, _∙_}
 use mathlib.Core.Bool.{Bool, true, false, cond}
 use mathlib.Core.List.{List}
 use Prim.Native.Nat.{ℕ, _+_, _*_, _≤_, _<_}
-use native.Mathlib.Nat.{mul-assoc, mul-pos, one-mul}
+use native.Mathlib.Nat.{mul-assoc, mul-pos}
 use native.Mathlib.Omega.{arith}
 use borrow.Author.Tests.{eqb-true}
 use lib.Dec.{eqb}
@@ -15,23 +15,42 @@ use Rattle.picture.specs.declared.LevelSize.{LevelSize}
 use Rattle.picture.proofs.Sizes.{half-sized}
 use Rattle.passes.specs.Passes.{Pass}
 use Rattle.passes.specs.Forms.{formBytes, formPass}
+use Rattle.passes.specs.Lines.{Lines}
 use Rattle.passes.specs.Written.{passed}
 use Rattle.passes.specs.declared.Form.{Form}
 use Rattle.passes.proofs.Forms.{form-passed, form-grows}
 use Rattle.passes.proofs.Local.{Local, halve-local, double-local}
 use Rattle.passes.proofs.OneWide.{one-wide}
+use Rattle.turns.proofs.Lines.{as-one}
 use Rattle.resize.specs.declared.Resize.{Resize}
 use Rattle.resize.specs.declared.Resize.the-variants.{Halve, Double}
 use Rattle.decimate.specs.declared.Rows.{Rows}
-use Rattle.resize.specs.Resize.{passOf}
+use Rattle.resize.specs.Resize.{passOf, Makes}
 use Rattle.decimate.specs.Rows.{rowsOf}
 use Rattle.resize.specs.Room.{ResizeLines}
-use Rattle.decimate.specs.Room.{Levels, LevelBuffers}
+use Rattle.decimate.specs.Room.{RowsRoom, Levels, LevelBuffers}
 
 -- either pass looks only at its line
-local : (kind : Resize) (mode : EdgeMode) → Local (passOf kind mode)
+pub local : (kind : Resize) (mode : EdgeMode) → Local (passOf kind mode)
 local Halve mode = halve-local mode
 local Double mode = double-local mode
+
+-- lines of some elements become lines of some
+pub some-made : (kind : Resize) {len out : ℕ} → Makes kind len out → 0 < len → 0 < out
+some-made Halve e l = omega arith
+some-made Double e l = omega arith
+
+-- what halving or doubling asks of lines is what any pass does
+pub as-lines : {kind : Resize} {src dst : List ℕ} {lines len out stride : ℕ} → ResizeLines kind src dst lines len out stride → Lines src dst lines len out stride
+as-lines r =
+    record { some = r .some; len-low = r .len-low; len-high = r .len-high; stride-low = r .stride-low; src-size = r .src-length; dst-size = r .dst-length }
+
+-- as many bytes are one line too, whose elements are those of all lines
+module _ {kind : Resize} {src dst : List ℕ} {lines len out stride : ℕ} (r : ResizeLines kind src dst lines len out stride) where
+  pub one-line : {a b : List ℕ} → length a ≡ lines * (len * stride) → length b ≡ lines * (out * stride) → ResizeLines kind a b 1 len out (lines * stride)
+  one-line {a} {b} ea eb =
+      let p : Lines a b 1 len out (lines * stride) = as-one (as-lines r) ea eb in
+      record { some = p .some; stride-low = p .stride-low; len-low = p .len-low; len-high = p .len-high; makes = r .makes; src-length = p .src-size; dst-length = p .dst-size }
 
 -- rows as lines: one to a row, or where each row is one element and stays so, one of one element
 module _ {w v : ℕ} (wl : 0 < w) (vl : 0 < v) (lines lanes : ℕ) where
@@ -46,20 +65,8 @@ module _ {w v : ℕ} (wl : 0 < w) (vl : 0 < v) (lines lanes : ℕ) where
   pub rows-fit : {kind : Resize} {src dst : List ℕ} → ResizeLines kind src dst lines w v lanes → ResizeLines kind src dst (rowsOf w lines lanes v .lines) w v (rowsOf w lines lanes v .stride)
   rows-fit {kind} {src} {dst} r =
       rows-by (λ rows. ResizeLines kind src dst (rows .lines) w v (rows .stride))
-      (λ ew ev.
-      record {
-        some = omega arith;
-        stride-low = mul-pos (r .some) (r .stride-low);
-        len-low = wl;
-        len-high = r .len-high;
-        makes = r .makes;
-        src-length = r .src-length ∙ rw ew one-line;
-        dst-length = r .dst-length ∙ rw ev one-line;
-      })
+      (λ _ _. one-line r (r .src-length) (r .dst-length))
       r
-    where
-      one-line : lines * (1 * lanes) ≡ 1 * (1 * (lines * lanes))
-      one-line = rw (one-mul lanes) (omega arith)
 
   -- .. and what either way makes is the same
   pub rows-same : (f : Pass) → Local f → (src : List ℕ) → passed f src (rowsOf w lines lanes v .lines) w v (rowsOf w lines lanes v .stride) ≡ passed f src lines w v lanes
@@ -77,11 +84,14 @@ module _ {f : Form} {kind : Resize} {picture scratch : List ℕ} {s t : LevelSiz
   v-low : 0 < v
   v-low = omega (arith, r .t-sized .w-low)
 
+  before-fits : before ≤ length picture
+  before-fits = omega (arith, r .s-fits)
+
   pub between-fits : f .planes * h * (v * f .lanes) ≤ length scratch
   between-fits = rw (mul-assoc (f .planes) h (v * f .lanes), eh, ev) (r .between-fits)
 
   -- the rows of all planes
-  pub rows-lines : {q : Rows} → q ≡ rowsOf w (f .planes * h) (f .lanes) v →
+  rows-lines : {q : Rows} → q ≡ rowsOf w (f .planes * h) (f .lanes) v →
       ResizeLines kind (take before picture) (take (f .planes * h * (v * f .lanes)) scratch) (q .lines) w v (q .stride)
   rows-lines eq =
       rw eq
@@ -92,13 +102,24 @@ module _ {f : Form} {kind : Resize} {picture scratch : List ℕ} {s t : LevelSiz
         len-low = w-low;
         len-high = omega (arith, r .s-sized .w-high);
         makes = rw (ew, ev) (r .wide);
-        src-length = length-take-le _ _ (omega (arith, r .s-fits)) ∙ eb ∙ rw (ew, eh) (sym (mul-assoc (f .planes) (s .h) (s .w * f .lanes)));
+        src-length = length-take-le _ _ before-fits ∙ eb ∙ rw (ew, eh) (sym (mul-assoc (f .planes) (s .h) (s .w * f .lanes)));
         dst-length = length-take-le _ _ between-fits;
       })
 
+  pub rows-room : {q : Rows} → q ≡ rowsOf w (f .planes * h) (f .lanes) v →
+      RowsRoom kind picture scratch before (f .planes * h * (v * f .lanes)) (q .lines) w v (q .stride)
+  rows-room eq =
+      record {
+        lined = rows-lines eq;
+        picture-before = before-fits;
+        picture-between = rw (mul-assoc (f .planes) h (v * f .lanes), eh, ev) (r .between-turned);
+        scratch-before = omega (arith, r .s-turned);
+        scratch-between = between-fits;
+      }
+
   -- the planes, each a line of rows
-  pub cols-lines : {src : List ℕ} → length src ≡ f .planes * h * (v * f .lanes) → ResizeLines kind src (take after picture) (f .planes) h u (v * f .lanes)
-  cols-lines n =
+  pub cols-lines : {src dst : List ℕ} → length src ≡ f .planes * h * (v * f .lanes) → length dst ≡ after → ResizeLines kind src dst (f .planes) h u (v * f .lanes)
+  cols-lines n m =
       record {
         some = r .formed .planes-low;
         stride-low = mul-pos v-low (r .formed .lanes-low);
@@ -106,7 +127,7 @@ module _ {f : Form} {kind : Resize} {picture scratch : List ℕ} {s t : LevelSiz
         len-high = omega (arith, r .s-sized .h-high);
         makes = rw (eh, eu) (r .high);
         src-length = n ∙ mul-assoc (f .planes) h (v * f .lanes);
-        dst-length = length-take-le _ _ (omega (arith, r .t-fits)) ∙ ea ∙ rw (ev, eu);
+        dst-length = m ∙ ea ∙ rw (ev, eu);
       }
 
   -- the columns of what the rows made
@@ -149,6 +170,8 @@ module _ {f : Form} {picture scratch : List ℕ} {s : LevelSize} (b : LevelBuffe
         s-fits = omega (arith, b .picture-length);
         t-fits = omega (arith, b .picture-length, form-grows f narrow low);
         between-fits = omega (arith, b .scratch-length, form-grows f {u = s .h} {h = s .h} narrow (omega arith));
+        s-turned = omega (arith, b .scratch-length);
+        between-turned = omega (arith, b .picture-length, form-grows f {u = s .h} {h = s .h} narrow (omega arith));
       }
 
   -- .. and its half becomes the level
@@ -163,4 +186,6 @@ module _ {f : Form} {picture scratch : List ℕ} {s : LevelSize} (b : LevelBuffe
         s-fits = omega (arith, b .picture-length, form-grows f narrow low);
         t-fits = omega (arith, b .picture-length);
         between-fits = omega (arith, b .scratch-length, form-grows f {v = s .w} {w = s .w} (omega arith) low);
+        s-turned = omega (arith, b .scratch-length, form-grows f narrow low);
+        between-turned = omega (arith, b .picture-length, form-grows f {v = s .w} {w = s .w} (omega arith) low);
       }

@@ -1,2 +1,3 @@
 -- Laws of halving and doubling levels, for this crate's proofs.
 pub mod Levels
+mod Fronts

@@ -5,9 +5,10 @@ ghost use lib.ListN.{take};
 ghost use Rattle.picture.specs.Sizes.{sideRoom, halfLevel};
 ghost use Rattle.passes.specs.Passes.{halve, double};
 ghost use Rattle.passes.specs.Forms.{formBytes, formPass};
+ghost use Rattle.passes.specs.Written.{passed};
 ghost use Rattle.resize.specs.Resize.{passOf};
 ghost use Rattle.decimate.specs.Rows.{rowsOf};
-ghost use Rattle.decimate.specs.Room.{Levels, LevelBuffers};
+ghost use Rattle.decimate.specs.Room.{RowsRoom, Levels, LevelBuffers};
 use passes::Form;
 use picture::EdgeMode;
 use picture::LevelSize;
@@ -37,6 +38,87 @@ fn rows_of(w: usize, lines: usize, lanes: usize, v: usize) -> Rows
     }
 }
 
+// Short lines, and many of them: turned, made others as one line, and turned back. What lies in picture is room for the one line.
+fn resize_turned(
+    picture: &mut [u8],
+    scratch: &mut [u8],
+    before: usize,
+    between: usize,
+    rows: Rows,
+    w: usize,
+    v: usize,
+    mode: EdgeMode,
+    kind: Resize,
+)
+    requires { ⌜ RowsRoom kind (now picture) (now scratch) before between (rows .lines) w v (rows .stride) ⌝ }
+    ensures { λ _. ⌜ take between (now (scratch .exit)) ≡ passed (passOf kind mode) (take before (now (picture .entry))) (rows .lines) w v (rows .stride) ⌝ }
+{
+    let lines = rows.lines;
+    let stride = rows.stride;
+    let element = lines * stride;
+    turns::turn(&picture[..before], &mut scratch[..before], lines, w, stride);
+    resize::resize_lines(
+        &scratch[..before],
+        &mut picture[..between],
+        1,
+        w,
+        v,
+        element,
+        mode,
+        kind,
+    );
+    turns::turn(
+        &picture[..between],
+        &mut scratch[..between],
+        v,
+        lines,
+        stride,
+    );
+}
+
+// Whether it pays to turn lines of w elements that become v wide, and to turn them back. Single bytes, in lines too short for a vector, are made
+// one by one, and four are made at once in any line: so it pays for longer lines of bytes than of pixels. Nothing rests on it but time: the
+// bytes are the same either way.
+fn pays(rows: Rows, w: usize, v: usize) -> bool {
+    let most = if rows.stride == 1 { 16 } else { 7 };
+    if w <= most && v <= most {
+        64 <= rows.lines
+    } else {
+        false
+    }
+}
+
+// Lines that are a level's rows, `before` bytes of the picture, made others, `between` bytes of scratch.
+fn resize_rows(
+    picture: &mut [u8],
+    scratch: &mut [u8],
+    before: usize,
+    between: usize,
+    rows: Rows,
+    w: usize,
+    v: usize,
+    mode: EdgeMode,
+    kind: Resize,
+)
+    requires { ⌜ RowsRoom kind (now picture) (now scratch) before between (rows .lines) w v (rows .stride) ⌝ }
+    ensures { λ _. ⌜ take between (now (scratch .exit)) ≡ passed (passOf kind mode) (take before (now (picture .entry))) (rows .lines) w v (rows .stride) ⌝ }
+{
+    if pays(rows, w, v) {
+        resize_turned(picture, scratch, before, between, rows, w, v, mode, kind);
+    } else {
+        resize::resize_lines(
+            &picture[..before],
+            &mut scratch[..between],
+            rows.lines,
+            w,
+            v,
+            rows.stride,
+            mode,
+            kind,
+        );
+    }
+}
+
 // A level of size s made one of size t: rows to scratch, then columns back.
 fn resize_form(
     picture: &mut [u8],
@@ -60,16 +142,7 @@ fn resize_form(
     let stride = v * form.lanes;
     let between = lines * stride;
     let rows = rows_of(w, lines, form.lanes, v);
-    resize::resize_lines(
-        &picture[..before],
-        &mut scratch[..between],
-        rows.lines,
-        w,
-        v,
-        rows.stride,
-        mode,
-        kind,
-    );
+    resize_rows(picture, scratch, before, between, rows, w, v, mode, kind);
     resize::resize_lines(
         &scratch[..between],
         &mut picture[..after],

@@ -1,5 +1,5 @@
 -- Turned, convolved as one line and turned back are the pass over the lines.
-use mathlib.Core.Path.{refl}
+use mathlib.Core.Path.{_∙_}
 use native.Mathlib.Omega.{arith}
 use borrow.Author.Needs.{needs}
 use denote.Ref.{now}
@@ -22,7 +22,7 @@ convolve-lines-requires : tie.Need-convolve-lines-requires
 convolve-lines-requires c κs =
     let t = c .before .before .before .before in
     let s = start t in
-    record { kernel = s .pre .kernel; lined = as-one (s .pre .lined) (t .turn .kept .1 .0) refl }
+    record { kernel = s .pre .kernel; lined = as-one (s .pre .lined) (t .turn .kept .1 .0 ∙ s .pre .lined .dst-size) (s .pre .lined .src-size) }
 
 returns : tie.Need-returns
 returns c =
@@ -31,7 +31,8 @@ returns c =
     let t = l .before .before .before .before .before in
     let s = start t in
     let a = s .args in
-    turned-pass (s .pre .lined) (convolve (a .mode) (now (a .weights))) (convolve-local (a .mode) (now (a .weights))) (t .turn .ensures) (l .convolve-lines .ensures) (b .turn2 .ensures)
+    let p = s .pre .lined in
+    turned-pass p (p .len-low) (convolve (a .mode) (now (a .weights))) (convolve-local (a .mode) (now (a .weights))) (t .turn .ensures) (l .convolve-lines .ensures) (b .turn2 .ensures)
 
 pub convolve-turned-spec : {M : Type 1} → statement M
 convolve-turned-spec =

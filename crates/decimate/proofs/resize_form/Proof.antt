@@ -1,16 +1,15 @@
 -- The rows go to the front of scratch and the columns back to the front of the picture; together they are the level's pass.
-use mathlib.Core.Path.{_≡_, sym, ap, _∙_}
-use mathlib.Core.List.{_++_}
+use mathlib.Core.Path.{_≡_, sym, _∙_}
 use Prim.Native.Nat.{ℕ, _*_, _≤_}
 use native.Mathlib.Nat.{mul-le-mul}
 use native.Mathlib.Omega.{arith}
 use denote.Ref.{now}
-use lib.ListN.{length, take, drop}
-use lib.Seq.{length-take-le, length-front, take-at}
+use lib.ListN.{length}
+use lib.Seq.{length-take-le, take-at}
 use borrow.Author.Needs.{needs}
 use Rattle.picture.proofs.Sizes.{room-is}
 use Rattle.passes.specs.declared.Form.{Form}
-use Rattle.decimate.proofs.Levels.{between-fits, rows-lines, cols-lines, level-made}
+use Rattle.decimate.proofs.Levels.{between-fits, rows-room, cols-lines, level-made}
 use Rattle.decimate.proofs.resize_form.Statement.{statement}
 use Rattle.decimate.proofs.resize_form.Tie as tie
 
@@ -47,31 +46,22 @@ module _ (m : tie.After-form-bytes2) where
   stride-fits : stride ≤ 262144
   stride-fits = mul-le-mul {n₁ = m .before .before .before .width2 .result} {m₁ = form .lanes} {n₂ = 65536} {m₂ = 4} (omega (arith, room-is, v-is, start .pre .t-sized .w-high)) (start .pre .formed .lanes-high)
 
-  before-fits : m .before .form-bytes .result ≤ length (now (start .args .picture))
-  before-fits = omega (arith, m .before .form-bytes .ensures, start .pre .s-fits)
-
   after-fits : m .form-bytes2 .result ≤ length (now (start .args .picture))
   after-fits = omega (arith, m .form-bytes2 .ensures, start .pre .t-fits)
 
   scratch-fits : lines * stride ≤ length (now (start .args .scratch))
   scratch-fits = between-fits (start .pre) w-is h-is v-is u-is (m .before .form-bytes .ensures) (m .form-bytes2 .ensures)
 
--- what the rows made stands in the front of scratch
-module _ (c : tie.After-slice-known3) where
+-- the rows leave either buffer as long as it was
+module _ (r : tie.After-resize-rows) where
   abbrev sizes : tie.After-form-bytes2
-  sizes = c .before .before .before .before .before .before .before .before
+  sizes = r .before .before .before .before .before .before
 
-  front :
-      let n = lines sizes * stride sizes in
-      let made = c .before .before .resize-lines .last .1 .0 in
-      let all = made ++ drop n (now (start sizes .args .scratch)) in
-      (n ≤ length all) × (length (take n all) ≡ n) × (take n all ≡ made)
-  front =
-      let r = scratch-fits sizes in
-      let e = c .before .before .resize-lines .kept .1 .0 in
-      let m = e ∙ length-take-le _ _ r in
-      let f = take-at _ _ _ m in
-      (omega (arith, length-front (now (start sizes .args .scratch)) (c .before .before .resize-lines .last .1 .0) (lines sizes * stride sizes) e, r), ap length f ∙ m, f)
+  after-stays : sizes .form-bytes2 .result ≤ length (r .resize-rows .last .0)
+  after-stays = omega (arith, after-fits sizes, r .resize-rows .kept .0)
+
+  between-stays : lines sizes * stride sizes ≤ length (r .resize-rows .last .1 .0)
+  between-stays = omega (arith, scratch-fits sizes, r .resize-rows .kept .1 .0)
 
 mul-lines : tie.Need-mul-lines
 mul-lines c = omega (arith, lines-fit (c .before))
@@ -88,43 +78,35 @@ rows-of-requires c κs =
     let p = start m .pre in
     (omega (arith, w-is m, p .s-sized .w-high), omega (arith, lines-fit m, room-is), p .formed .lanes-high, omega (arith, v-is m, p .t-sized .w-high))
 
-slice-aggregate-resize-lines : tie.Need-slice-aggregate-resize-lines
-slice-aggregate-resize-lines c = sym (length-take-le _ _ (before-fits (c .before .before .before .before)))
+resize-rows-requires : tie.Need-resize-rows-requires
+resize-rows-requires c κs =
+    let m = c .before .before .before .before .before in
+    rows-room (start m .pre) (w-is m) (h-is m) (v-is m) (u-is m) (m .before .form-bytes .ensures) (m .form-bytes2 .ensures) (c .before .before .rows-of .ensures)
 
-slice-relend-prefix-resize-lines : tie.Need-slice-relend-prefix-resize-lines
-slice-relend-prefix-resize-lines c = scratch-fits (c .before .before .before .before)
+slice-reshare-prefix-resize-lines : tie.Need-slice-reshare-prefix-resize-lines
+slice-reshare-prefix-resize-lines c = between-stays (c .before .before .before .before)
+
+slice-aggregate-resize-lines : tie.Need-slice-aggregate-resize-lines
+slice-aggregate-resize-lines c = sym (length-take-le _ _ (between-stays (c .before .before .before .before .before)))
 
 slice-aggregate-resize-lines-2 : tie.Need-slice-aggregate-resize-lines-2
-slice-aggregate-resize-lines-2 c = sym (length-take-le _ _ (scratch-fits (c .before .before .before .before .before)))
+slice-aggregate-resize-lines-2 c = sym (length-take-le _ _ (after-stays (c .before .before .before .before .before .before)))
 
 resize-lines-requires : tie.Need-resize-lines-requires
 resize-lines-requires c κs =
-    let m = c .before .before .before .before .before in
-    rows-lines (start m .pre) (w-is m) (h-is m) (v-is m) (u-is m) (m .before .form-bytes .ensures) (m .form-bytes2 .ensures) (c .before .before .rows-of .ensures)
-
-slice-reshare-prefix-resize-lines-2 : tie.Need-slice-reshare-prefix-resize-lines-2
-slice-reshare-prefix-resize-lines-2 c = front c .0
-
-slice-aggregate-resize-lines-3 : tie.Need-slice-aggregate-resize-lines-3
-slice-aggregate-resize-lines-3 c = sym (front (c .before) .1)
-
-slice-aggregate-resize-lines-4 : tie.Need-slice-aggregate-resize-lines-4
-slice-aggregate-resize-lines-4 c = sym (length-take-le _ _ (after-fits (sizes (c .before .before))))
-
-resize-lines-requires-2 : tie.Need-resize-lines-requires-2
-resize-lines-requires-2 c κs =
-    let k = c .before .before in
-    let m = sizes k in
-    cols-lines (start m .pre) (w-is m) (h-is m) (v-is m) (u-is m) (m .before .form-bytes .ensures) (m .form-bytes2 .ensures) (front k .1)
+    let r = c .before .before .before .before .before .before in
+    let m = sizes r in
+    cols-lines (start m .pre) (w-is m) (h-is m) (v-is m) (u-is m) (m .before .form-bytes .ensures) (m .form-bytes2 .ensures)
+    (length-take-le _ _ (between-stays r)) (length-take-le _ _ (after-stays r))
 
 returns : tie.Need-returns
 returns c =
     let two = c .before .before in
-    let k = two .before .before .before in
-    let m = sizes k in
-    take-at _ _ _ (two .resize-lines2 .kept .1 .0 ∙ length-take-le _ _ (after-fits m) ∙ m .form-bytes2 .ensures)
+    let r = two .before .before .before .before .before .before .before in
+    let m = sizes r in
+    take-at _ _ _ (two .resize-lines .kept .1 .0 ∙ length-take-le _ _ (after-stays r) ∙ m .form-bytes2 .ensures)
     ∙ level-made (start m .pre) (w-is m) (h-is m) (v-is m) (u-is m) (m .before .form-bytes .ensures) (m .form-bytes2 .ensures) (start m .args .mode)
-    (k .before .before .before .before .before .rows-of .ensures) (front k .2 ∙ k .before .before .resize-lines .ensures) (two .resize-lines2 .ensures)
+    (r .before .before .before .rows-of .ensures) (r .resize-rows .ensures) (two .resize-lines .ensures)
 
 pub resize-form-spec : {M : Type 1} → statement M
 resize-form-spec =
@@ -140,16 +122,12 @@ resize-form-spec =
     mul-stride
     mul-between
     rows-of-requires
-    (λ c. search needs)
+    resize-rows-requires
+    slice-reshare-prefix-resize-lines
     slice-aggregate-resize-lines
-    slice-relend-prefix-resize-lines
+    (λ c. search needs)
     slice-aggregate-resize-lines-2
     resize-lines-requires
-    slice-reshare-prefix-resize-lines-2
-    slice-aggregate-resize-lines-3
-    (λ c. search needs)
-    slice-aggregate-resize-lines-4
-    resize-lines-requires-2
     (λ c. search needs)
     (λ c. search needs)
     returns)

@@ -35,8 +35,8 @@ ends c =
     let size = l .loop .inv .1 .size in
     (s .pre .0 (l .loop .y) (c .loop-test .taken), omega (arith, within (a .q) (a .size) (l .loop .y) (a .count) (c .loop-test .taken), s .pre .1, size), s .good .0 .0, omega (arith, size, s .good .1 .1 .1 .0 .0))
 
-copy-run-requires : tie.Need-copy-run-requires Inv-loop μ-loop
-copy-run-requires c κs = let e = ends (c .before) in (e .0, e .1)
+copy-element-requires : tie.Need-copy-element-requires Inv-loop μ-loop
+copy-element-requires c κs = let e = ends (c .before) in (e .0, e .1)
 
 loop-again : tie.Need-loop-again Inv-loop μ-loop
 loop-again c =
@@ -45,7 +45,7 @@ loop-again c =
     let l = t .before in
     let a = start l .args in (
       omega (arith, t .loop-test .taken),
-      span-join (omega arith) (omega (arith, scale 0 (a .size) (l .loop .y) (l .loop .y + 1) (omega arith))) (l .loop .inv .1) (span-element (λ y k. getD (now (a .src)) (a .p + y * a .step + k) 0) (l .loop .y) refl (w .copy-run .ensures)),
+      span-join (omega arith) (omega (arith, scale 0 (a .size) (l .loop .y) (l .loop .y + 1) (omega arith))) (l .loop .inv .1) (span-element (λ y k. getD (now (a .src)) (a .p + y * a .step + k) 0) (l .loop .y) refl (w .copy-element .ensures)),
     )
 
 returns : tie.Need-returns Inv-loop μ-loop
@@ -65,7 +65,7 @@ gather-spec =
     (λ c. omega (arith, ends c))
     (λ c. omega (arith, ends (c .before)))
     (λ c. omega (arith, ends (c .before)))
-    copy-run-requires
+    copy-element-requires
     (λ c. omega arith)
     (λ c. omega arith)
     loop-again

@@ -24,7 +24,8 @@ returns c =
     let t = l .before .before .before .before .before in
     let s = start t in
     let a = s .args in
-    turned-pass (s .pre .lined) (wholeConvolve (a .mode) (now (a .numerators))) (whole-local (a .mode) (now (a .numerators))) (t .turn .ensures) (l .whole-lines .ensures) (b .turn2 .ensures)
+    let p = s .pre .lined in
+    turned-pass p (p .len-low) (wholeConvolve (a .mode) (now (a .numerators))) (whole-local (a .mode) (now (a .numerators))) (t .turn .ensures) (l .whole-lines .ensures) (b .turn2 .ensures)
 
 pub whole-turned-spec : {M : Type 1} → statement M
 whole-turned-spec =
