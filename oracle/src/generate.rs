@@ -39,6 +39,7 @@ pub fn all(amount: Amount, take: Take) {
     small_blurs(&mut random, amount, take);
     long_blurs(&mut random, amount, take);
     limits(&mut random, amount, take);
+    tall(&mut Random::new(18), amount, take);
     shifts(&mut random, take);
     far_shifts(&mut random, take);
     shadow_alphas(&mut random, amount, take);
@@ -142,6 +143,18 @@ fn long_blurs(random: &mut Random, amount: Amount, take: Take) {
         let (n, edge) = (any_depth(random), random.below(4) as u32);
         take(blur(random, w, h, n, edge, 5));
         take(shadow(random, w, h, n, edge, 4));
+    }
+}
+
+/// Narrow pictures of about 64 rows and of more: so many short rows are made as one line.
+fn tall(random: &mut Random, amount: Amount, take: Take) {
+    for i in 0..18 * 4 * 4 {
+        let (w, edge, h) = (i % 18 + 1, i / 18 % 4, [63, 64, 65, 130][i as usize / 72]);
+        for _ in 0..amount.of(1, 8) {
+            let (n, taps) = (random.below(4) as u32, random.range(1, MOST_TAPS as i64) as usize);
+            take(blur(random, w, h, n, edge, taps));
+            take(shadow(random, w, h, n, edge, taps));
+        }
     }
 }
 
