@@ -19,13 +19,10 @@ mul-whole-lines c =
 
 returns : tie.Need-returns
 returns c =
-    let b = c .before .before in
-    let l = b .before .before .before .before .before in
-    let t = l .before .before .before .before .before in
-    let s = start t in
-    let a = s .args in
-    let p = s .pre .lined in
-    turned-pass p (p .len-low) (wholeConvolve (a .mode) (now (a .numerators))) (whole-local (a .mode) (now (a .numerators))) (t .turn .ensures) (l .whole-lines .ensures) (b .turn2 .ensures)
+    let first = c .before .before .before .before .before .before .before .before .before .before .before .before in
+    let a = start first .args in
+    let p = start first .pre .lined in
+    turned-pass p (p .len-low) (wholeConvolve (a .mode) (now (a .numerators))) (whole-local (a .mode) (now (a .numerators))) (first .turn .ensures) (c .before .before .before .before .before .before .before .whole-lines .ensures) (c .before .before .turn2 .ensures)
 
 pub whole-turned-spec : {M : Type 1} → statement M
 whole-turned-spec =
