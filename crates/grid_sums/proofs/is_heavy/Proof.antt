@@ -16,9 +16,6 @@ Inv-loop numerators total₀ i₀ total i = (i ≤ length numerators) × (total 
 abbrev μ-loop : tie.MeasureT-loop
 μ-loop numerators total₀ i₀ total i = length numerators - i
 
-loop-holds : tie.Need-loop-holds Inv-loop μ-loop
-loop-holds c = omega arith
-
 cast-total : tie.Need-cast-total Inv-loop μ-loop
 cast-total c = omega (arith, c .shared-slice-known .given (c .before .before .loop .i) .fits)
 
@@ -51,7 +48,7 @@ is-heavy-spec =
     (tie.spec
     Inv-loop
     μ-loop
-    loop-holds
+    (λ c. omega arith)
     (λ c. omega arith)
     (λ c. omega arith)
     cast-total
