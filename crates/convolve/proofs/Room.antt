@@ -3,14 +3,12 @@ use mathlib.Core.Path.{_≡_}
 use mathlib.Core.List.{List}
 use mathlib.Core.Logic.{⊎-elim}
 use Prim.Native.Nat.{ℕ, _+_, _-_, _*_, _/_, _≤_, _<_, min}
-use native.Mathlib.Nat.{add-mul, mul-le-mul, mul-le-mul-right, le-div-iff-mul-le, div-mul-le-self}
+use native.Mathlib.Nat.{add-mul, mul-le-mul-right, le-div-iff-mul-le, div-mul-le-self}
 use native.Mathlib.Omega.{arith}
 use lib.Ieee.{Float}
 use lib.ListN.{length, replicate, length-replicate}
 use Rattle.picture.specs.Refusal.{maxTaps}
-use Rattle.picture.proofs.Conditions.{right-taps}
 use Rattle.picture.proofs.Spans.{le-or-lt}
-use Rattle.passes.specs.Kernel.{Kernel}
 use Rattle.block_sums.specs.Room.{whole, lanes, BlockRoom}
 use Rattle.convolve.specs.Lines.{short}
 
@@ -20,12 +18,9 @@ room-still {stride = stride} {most = most} {m = m} b l s h =
     let more : m + (maxTaps - 1) ≤ most + (maxTaps - 1) = omega arith in
     record { some = s; values = omega (arith, b .values, mul-le-mul-right (min stride lanes) more) }
 
--- the small buffer, of (8 + 32) * 32 values, has room for a few small elements and what the taps add at their ends
-pub short-room : {weights : List Float} → Kernel weights → (m stride : ℕ) {l : ℕ} → l ≡ 1280 → m ≤ short → stride ≤ whole → (m + (length weights - 1)) * stride ≤ l
-unfolding maxTaps
-short-room {weights} w m stride l h r =
-    let k : m + (length weights - 1) ≤ 40 = omega (arith, right-taps _ .0 (w .counted) .high) in
-    omega (arith, mul-le-mul k r)
+-- the small buffer has room for a short line and what the taps add at its ends
+pub short-room : {v l : ℕ} (stride : ℕ) → l ≡ short → v ≤ short / stride → v * stride ≤ l
+short-room stride e h = omega (arith, mul-le-mul-right stride h, div-mul-le-self short stride)
 
 -- the large buffer, of (1024 / 32 + 32) * 128 values, has room for blocks of elements of any size
 pub long-room : {v : Float} {stride w : ℕ} → 0 < stride → w ≡ min stride whole → BlockRoom (replicate 8192 v) stride (1024 / w)

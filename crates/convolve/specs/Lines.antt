@@ -10,6 +10,6 @@ pub record ConvolveLines (src dst : List ℕ) (weights : List Float) (lines len 
   pub kernel : Kernel weights
   pub lined : Lines src dst lines len len stride
 
--- lines of at most this many elements that are taken whole go in a small buffer: the code's SHORT, where its reason stands
+-- lines of at most this many values, with those that the taps read beyond their ends, go in a buffer as large: the code's SHORT, where its reason stands
 abbrev pub short : ℕ
-short = 8
+short = 1280

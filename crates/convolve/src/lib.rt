@@ -1,13 +1,13 @@
 // The convolution of lines and levels, block by block.
 ghost use mathlib.Core.Path.{_≡_};
-ghost use Prim.Native.Nat.{ℕ, _*_, _≤_, _<_};
+ghost use Prim.Native.Nat.{ℕ, _+_, _-_, _*_, _/_, _≤_, _<_};
 ghost use lib.ListN.{length, getD};
 ghost use Rattle.picture.specs.Sizes.{Sized};
 ghost use Rattle.passes.specs.Passes.{convolve};
 ghost use Rattle.passes.specs.Forms.{formBytes, formPass, Formed};
 ghost use Rattle.passes.specs.Written.{lineByte, passed};
 ghost use Rattle.passes.specs.Kernel.{Kernel};
-ghost use Rattle.block_sums.specs.Room.{Source, whole, BlockRoom};
+ghost use Rattle.block_sums.specs.Room.{Source, BlockRoom};
 ghost use Rattle.convolve.specs.Lines.{ConvolveLines, short};
 use passes::Form;
 use picture::EdgeMode;
@@ -20,11 +20,12 @@ const BLOCK: usize = 1024;
 // The values of a block: of its elements and of those that the taps read beyond it, a strip of each.
 const LINE: usize = (BLOCK / block_sums::WHOLE + picture::MAX_TAPS - 1) * block_sums::LANES;
 
-// Lines of at most this many elements that are taken whole go in a buffer of 5 KiB: zeroing the large one took some 0.8 µs of every small blur.
-const SHORT: usize = 8;
+// Lines of at most this many values, 5 KiB, with those that the taps read beyond their ends, are a block each, in a buffer as large: zeroing the
+// large one took up to a fifth of a small blur.
+const SHORT: usize = 1280;
 
-// The values of a whole short line.
-const SHORT_LINE: usize = (SHORT + picture::MAX_TAPS - 1) * block_sums::WHOLE;
+// If there are no more lines than this: many rows of 16 pixels were up to 5 % slower so, and of many lines the zeroing is little.
+const FEW: usize = 64;
 
 // The line at start, in blocks of at most `most` elements, into dst.
 fn convolve_line(
@@ -83,8 +84,8 @@ fn each_line(
     }
 }
 
-// Each of `lines` lines of at most SHORT elements that are taken whole: one block each, in the small buffer. It is a loop of its own: with one
-// loop that either buffer is lent to, which the compiler keeps as a call, a picture 16 pixels wide took 9 % longer.
+// Each of `lines` lines of at most SHORT values: one block each, in the small buffer. It is a loop of its own: with one loop that either buffer
+// is lent to, which the compiler keeps as a call, a picture 16 pixels wide took 9 % longer.
 fn convolve_short(
     src: &[u8],
     dst: &mut [u8],
@@ -94,10 +95,10 @@ fn convolve_short(
     weights: &[f32],
     mode: EdgeMode,
 )
-    requires { ⌜ ConvolveLines (now src) (now dst) (now weights) lines len stride ⌝ ∗ ⌜ (len ≤ short) × (stride ≤ whole) ⌝ }
+    requires { ⌜ ConvolveLines (now src) (now dst) (now weights) lines len stride ⌝ ∗ ⌜ len + (length (now weights) - 1) ≤ short / stride ⌝ }
     ensures { λ _. ⌜ now (dst .exit) ≡ passed (convolve mode (now (weights .entry))) (now (src .entry)) lines len len stride ⌝ }
 {
-    let mut line = [0.0f32; SHORT_LINE];
+    let mut line = [0.0f32; SHORT];
     let mut y = 0;
     while y < lines {
         let size = len * stride;
@@ -150,9 +151,9 @@ pub fn convolve_lines(
     requires { ⌜ ConvolveLines (now src) (now dst) (now weights) lines len stride ⌝ }
     ensures { λ _. ⌜ now (dst .exit) ≡ passed (convolve mode (now (weights .entry))) (now (src .entry)) lines len len stride ⌝ }
 {
-    if SHORT < len {
+    if FEW < lines {
         convolve_long(src, dst, lines, len, stride, weights, mode);
-    } else if block_sums::WHOLE < stride {
+    } else if SHORT / stride < len + weights.len() - 1 {
         convolve_long(src, dst, lines, len, stride, weights, mode);
     } else {
         convolve_short(src, dst, lines, len, stride, weights, mode);

@@ -55,7 +55,7 @@ convolve-whole-requires c κs =
       record { kernel = p .kernel; len-high = p .lined .len-high; stride-low = p .lined .stride-low; end = omega (arith, i .2 .made .size, p .lined .src-size, p .lined .dst-size) },
       (
         (p .lined .len-low, omega arith),
-        (simp (length-take, length-drop) (omega arith), short-room (p .kernel) (s .args .len) (s .args .stride) (i .1) (q .0) (q .1)),
+        (simp (length-take, length-drop) (omega arith), short-room (s .args .stride) (i .1) q),
       ),
     )
 
