@@ -10,8 +10,8 @@ ghost use Rattle.gaussian_blur.specs.Needs.{BlurReady, BlurAccepted};
 ghost use Rattle.gaussian_blur.specs.Outcome.{blurredOrKept};
 ghost use Rattle.plane_blur.specs.Outcome.{blurPlanesOutcome};
 
-// Planes of fewer bytes to a row are converted: line by line they cost more, up to 1.67 of a picture's blur at 16 square and 1.09 at 128, and with
-// two decimations 3.2 and 1.25; at 256 square it is 1.05 and 0.99.
+// Planes of fewer bytes to a row are converted: line by line they cost more, up to 1.44 of a picture's blur at 16 square and 1.08 at 128, and with
+// two decimations 2.44 and 1.32; at 256 square it is 1.03 and 1.07, where converting takes 1.02 and 1.12.
 const WIDE: usize = 256;
 
 // Blurs planes as the picture that they are: it is made in the scratch, with the planes' own bytes as its scratch.
