@@ -1,3 +1,2 @@
 -- Laws of a convolution of lines.
-mod Lent
 mod Room

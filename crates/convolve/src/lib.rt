@@ -160,7 +160,7 @@ pub fn convolve_lines(
     }
 }
 
-// Short lines, and many of them: turned, convolved as one line, and turned back. What lies in picture is room for the one line.
+// Lines turned, convolved as one line, and turned back. What lies in picture is room for the one line.
 fn convolve_turned(
     picture: &mut [u8],
     scratch: &mut [u8],
@@ -176,6 +176,18 @@ fn convolve_turned(
     turns::turn(picture, scratch, lines, w, lanes);
     convolve_lines(scratch, picture, 1, w, lines * lanes, weights, mode);
     turns::turn(picture, scratch, w, lines, lanes);
+}
+
+// Whether it pays to turn lines of len elements, to convolve them as one line and to turn them back: it saves what the ends of each line cost,
+// which grows with the taps. Lines of up to 8 elements more than there are taps gain by it, of single bytes 11 more, and of a few lines only short
+// ones. Nothing rests on it but time: the bytes are the same either way.
+fn pays(len: usize, lines: usize, lanes: usize, taps: usize) -> bool {
+    let free = if lanes == 1 { 11 } else { 8 };
+    if len / 8 + 1 < lines {
+        len - picture::least(len, free) <= taps
+    } else {
+        false
+    }
 }
 
 // Lines that are a level's rows. Rows of one element are one line of one element, of all their bytes: so few lanes at a time are not worth a
@@ -194,7 +206,7 @@ fn convolve_rows(
 {
     if w == 1 {
         convolve_lines(picture, scratch, 1, 1, lines * lanes, weights, mode);
-    } else if turns::pays(w, lines) {
+    } else if pays(w, lines, lanes, weights.len()) {
         convolve_turned(picture, scratch, w, lines, lanes, weights, mode);
     } else {
         convolve_lines(picture, scratch, lines, w, lanes, weights, mode);

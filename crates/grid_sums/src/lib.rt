@@ -57,16 +57,26 @@ fn add_lanes(acc: &mut [u32], n: usize, src: &[u8], a: usize, k: u16)
     }
 }
 
+// The same. A weight of 0 adds nothing, and the sums are not read for it.
+fn add_part(acc: &mut [u32], n: usize, src: &[u8], a: usize, k: u16)
+    requires { ⌜ n ≤ length (now acc) ⌝ ∗ ⌜ a + n ≤ length (now src) ⌝ ∗ ⌜ ((i : ℕ) → i < n → getD (now acc) i 0 ≤ sumRoom) ⌝ }
+    ensures { λ _. ⌜ Run 0 (now (acc .entry)) (now (acc .exit)) 0 n (λ i. getD (now (acc .entry)) i 0 + getD (now (src .entry)) (a + i) 0 * k) ⌝ }
+{
+    if 0 < k {
+        add_lanes(acc, n, src, a, k);
+    }
+}
+
 // The same in a numerator. 65536, which can only stand alone, is 0 and twice 32768. Its 16 bits are taken first, before the test: under a test
 // that shows it below 65536 the compiler would multiply 32 bits after all, in twice the time.
 fn add_tap(acc: &mut [u32], n: usize, src: &[u8], a: usize, k: u32)
     requires { ⌜ n ≤ length (now acc) ⌝ ∗ ⌜ a + n ≤ length (now src) ⌝ ∗ ⌜ k ≤ 65536 ⌝ ∗ ⌜ ((i : ℕ) → i < n → getD (now acc) i 0 ≤ mostSum) ⌝ }
     ensures { λ _. ⌜ Run 0 (now (acc .entry)) (now (acc .exit)) 0 n (λ i. getD (now (acc .entry)) i 0 + getD (now (src .entry)) (a + i) 0 * k) ⌝ }
 {
-    add_lanes(acc, n, src, a, (k % 65536) as u16);
+    add_part(acc, n, src, a, (k % 65536) as u16);
     if 65535 < k {
-        add_lanes(acc, n, src, a, 32768);
-        add_lanes(acc, n, src, a, 32768);
+        add_part(acc, n, src, a, 32768);
+        add_part(acc, n, src, a, 32768);
     }
 }
 

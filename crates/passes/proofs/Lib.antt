@@ -7,3 +7,4 @@ pub mod OneWide
 pub mod Relates
 pub mod Forms
 pub mod Lines
+pub mod Lent

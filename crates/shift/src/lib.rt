@@ -80,7 +80,7 @@ fn slide(bytes: &mut [u8], d: ByteOffset)
 }
 
 // Sets the n bytes from `start` on to zero in each of the h rows of w bytes.
-fn clear_columns(bytes: &mut [u8], w: usize, h: usize, start: usize, n: usize)
+fn clear_each(bytes: &mut [u8], w: usize, h: usize, start: usize, n: usize)
     requires { ⌜ (length (now bytes) ≡ h * w) × (start + n ≤ w) ⌝ }
     ensures { λ _. ⌜ now (bytes .exit) ≡ columnsZeroed w start n (now (bytes .entry)) ⌝ }
 {
@@ -88,6 +88,22 @@ fn clear_columns(bytes: &mut [u8], w: usize, h: usize, start: usize, n: usize)
     while y < h {
         clear_run(bytes, y * w + start, n);
         y += 1;
+    }
+}
+
+// The same. One, two and three pixels are numbers of bytes that the compiler knows, so that they are stored at once and no row is a call.
+fn clear_columns(bytes: &mut [u8], w: usize, h: usize, start: usize, n: usize)
+    requires { ⌜ (length (now bytes) ≡ h * w) × (start + n ≤ w) ⌝ }
+    ensures { λ _. ⌜ now (bytes .exit) ≡ columnsZeroed w start n (now (bytes .entry)) ⌝ }
+{
+    if n == 4 {
+        clear_each(bytes, w, h, start, 4);
+    } else if n == 8 {
+        clear_each(bytes, w, h, start, 8);
+    } else if n == 12 {
+        clear_each(bytes, w, h, start, 12);
+    } else {
+        clear_each(bytes, w, h, start, n);
     }
 }
 

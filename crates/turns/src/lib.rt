@@ -6,12 +6,6 @@ ghost use lib.ListN.{length, getD};
 ghost use Rattle.picture.specs.Spans.{Run};
 ghost use Rattle.turns.specs.Turned.{turned, Turnable};
 
-// Whether it pays to turn lines, to pass over them as one, and to turn them back: they are short, and so many that what a pass costs at each
-// line's ends is more than the two turns. Nothing rests on it but time: the bytes are the same either way.
-pub fn pays(len: usize, lines: usize) -> bool {
-    if len < 8 { 64 <= lines } else { false }
-}
-
 // Four bytes from p on into dst from q on. All are read before one is written, so that the compiler moves them at once.
 fn copy_four(src: &[u8], p: usize, dst: &mut [u8], q: usize)
     requires { ⌜ p + 4 ≤ length (now src) ⌝ ∗ ⌜ q + 4 ≤ length (now dst) ⌝ }

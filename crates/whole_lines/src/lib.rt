@@ -18,6 +18,9 @@ use picture::LevelSize;
 // The most lanes of a run: their sums are 4 KiB of stack, zeroed once a pass.
 const LANES: usize = 1024;
 
+// A band is the rows that this many pixels begin, 32 KiB: turned at once, a larger picture would leave the cache with each turn.
+const BAND: usize = 8192;
+
 // A run of a line: n lanes, from lane `from` of element x on, and whether all that their taps read lies inside.
 struct LineRun {
     x: usize,
@@ -116,7 +119,7 @@ fn whole_lines(
     }
 }
 
-// Short rows, and many of them: turned, convolved as one line, and turned back. What lies in picture is room for the one line.
+// Rows turned, convolved as one line, and turned back. What lies in picture is room for the one line.
 fn whole_turned(
     picture: &mut [u8],
     scratch: &mut [u8],
@@ -133,6 +136,46 @@ fn whole_turned(
     turns::turn(picture, scratch, w, h, 4);
 }
 
+// The same in bands, each turned by itself.
+fn whole_bands(
+    picture: &mut [u8],
+    scratch: &mut [u8],
+    w: usize,
+    h: usize,
+    numerators: &[u32],
+    mode: EdgeMode,
+)
+    requires { ⌜ WholeLines (now picture) (now scratch) (now numerators) h w 4 ⌝ }
+    ensures { λ _. ⌜ now (scratch .exit) ≡ passed (wholeConvolve mode (now (numerators .entry))) (now (picture .entry)) h w w 4 ⌝ }
+{
+    let size = w * 4;
+    let most = BAND / w + 1;
+    let mut y = 0;
+    while y < h {
+        let rows = picture::least(most, h - y);
+        let start = y * size;
+        let n = rows * size;
+        whole_turned(
+            &mut picture[start..start + n],
+            &mut scratch[start..start + n],
+            w,
+            rows,
+            numerators,
+            mode,
+        );
+        y += rows;
+    }
+}
+
+// Whether it pays to turn rows of len pixels, to convolve them as one line and to turn them back: it saves summing taps - 1 pixels of each row
+// tap by tap, which costs as much as both turns of some 3 * taps * taps pixels, and less is saved where rows are few. Nothing rests on it but
+// time: the bytes are the same either way.
+fn pays(len: usize, lines: usize, taps: usize) -> bool
+    requires { ⌜ (0 < lines) × (0 < taps) ⌝ }
+{
+    len / taps / taps < picture::least(lines - 1, 3)
+}
+
 // The rows of a level, convolved into scratch.
 fn whole_rows(
     picture: &mut [u8],
@@ -145,8 +188,8 @@ fn whole_rows(
     requires { ⌜ WholeLines (now picture) (now scratch) (now numerators) h w 4 ⌝ }
     ensures { λ _. ⌜ now (scratch .exit) ≡ passed (wholeConvolve mode (now (numerators .entry))) (now (picture .entry)) h w w 4 ⌝ }
 {
-    if turns::pays(w, h) {
-        whole_turned(picture, scratch, w, h, numerators, mode);
+    if pays(w, h, numerators.len()) {
+        whole_bands(picture, scratch, w, h, numerators, mode);
     } else {
         whole_lines(picture, scratch, h, w, 4, numerators, mode);
     }

@@ -8,7 +8,7 @@ use lib.Ieee.{binary32, ofBits}
 use lib.ListN.{length, length-take, length-drop, length-replicate}
 use Rattle.passes.specs.Passes.{convolve}
 use Rattle.passes.proofs.Written.{Lined, lined-none, line-ends, lined-all}
-use Rattle.convolve.proofs.Lent.{line-more}
+use Rattle.passes.proofs.Lent.{line-more}
 use Rattle.convolve.proofs.Room.{short-room}
 use Rattle.convolve.proofs.convolve_short.Statement.{statement}
 use Rattle.convolve.proofs.convolve_short.Tie as tie

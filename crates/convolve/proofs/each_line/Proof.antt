@@ -5,7 +5,7 @@ use native.Mathlib.Omega.{arith}
 use lib.ListN.{length, length-take, length-drop}
 use Rattle.passes.specs.Passes.{convolve}
 use Rattle.passes.proofs.Written.{Lined, lined-none, line-ends, lined-all}
-use Rattle.convolve.proofs.Lent.{line-more}
+use Rattle.passes.proofs.Lent.{line-more}
 use Rattle.convolve.proofs.Room.{room-still}
 use Rattle.convolve.proofs.each_line.Statement.{statement}
 use Rattle.convolve.proofs.each_line.Tie as tie
