@@ -1,14 +1,14 @@
--- Values that are finite and not below 0, each as the fraction `num` / `den`: their order, their sums and their products.
+-- Values that are finite and not below 0, each as the fraction `num` / `den`: their order, their sums, differences and products.
 use mathlib.Core.Path.{_≡_, refl, sym, ap, _∙_, subst}
 use mathlib.Core.Logic.{_⊎_, inl, inr}
 use mathlib.Core.Bool.{Bool, true, false, not, cond, _&&_, _||_, true≢false}
 use Prim.Native.Nat.{ℕ, _+_, _-_, _*_, _^_, _≤_, _<_}
-use native.Mathlib.Nat.{zero-lt-suc, le-of-lt, le-of-eq, lt-of-not-le, not-le-of-lt, zero-add, zero-mul, mul-one, mul-comm, mul-assoc, mul-right-comm, add-mul, mul-pos}
+use native.Mathlib.Nat.{zero-lt-suc, le-of-lt, le-of-eq, lt-of-not-le, not-le-of-lt, zero-add, zero-mul, mul-one, mul-comm, mul-assoc, mul-right-comm, add-mul, mul-sub, mul-pos, mul-le-mul-left}
 use native.Mathlib.Omega.{arith}
 use borrow.Author.Tests.{ltb-true, ltb-false, le-ltb}
 use lib.Dec.{T, ltb, eqb, eqb→eq, ltb→lt}
 use lib.IntN.{ℤ, pos}
-use lib.Ieee.{Float, nan, inf, fin, binary32, up, down, unlike, below, round, sum, add, mul, ofInt, le, lt}
+use lib.Ieee.{Float, nan, inf, fin, binary32, up, down, unlike, below, round, neg, sum, add, sub, mul, ofInt, le, lt}
 use lib.Ieee.Back.{round-whole}
 use lib.Ieee.Exact.{HasValue}
 use lib.Ieee.Fits.{and-l, down-pos}
@@ -130,6 +130,14 @@ add-at x y a b c C v w o =
         let q : y * dx * c ≡ b * (dx * dy) = mul-right-comm y dx c ∙ ap (λ (z : ℕ). z * dx) k ∙ simp (mul-assoc, mul-comm) in
         add-mul (x * dy) (y * dx) c ∙ (rw (p, q) (sym (add-mul a b (dx * dy))))
 
+-- ---- x - y for a y that is no larger
+pub sub-is : (x y : Float) → T (plain x) → T (plain y) → Cross y x → sub binary32 x y ≡ round binary32 false (num x * den y - num y * den x) (den x * den y)
+unfolding sub add neg sum
+sub-is x y p q =
+    on-plain (λ x. Cross y x → sub binary32 x y ≡ round binary32 false (num x * den y - num y * den x) (den x * den y))
+    (λ m e. on-plain (λ y. Cross y (fin false m e) → sub binary32 (fin false m e) y ≡ round binary32 false (m * up e * den y - num y * down e) (down e * den y))
+    (λ n d h. rw (le-ltb (m * up e * down d) (n * up d * down e) h)) y q) x p
+
 -- ---- the product
 zero-one : (s : Bool) → round binary32 s 0 1 ≡ fin s 0 (pos 0)
 unfolding round
@@ -169,6 +177,16 @@ add-alike x y z p (inr e) =
 
 pub value→is : (x : Float) (a c : ℕ) → HasValue x false a c → Is x a c
 value→is x a c h = (plain-nonneg x (plain-of-value x a c h), value→cross x a c h)
+
+-- ---- a whole number less another one
+pub whole-less : (x y : Float) (a b : ℕ) → HasValue x false a 1 → HasValue y false b 1 → b ≤ a → a - b ≤ 2 ^ 24 → HasValue (sub binary32 x y) false (a - b) 1
+whole-less x y a b v w l h =
+    let D = den x * den y in
+    let top : num x * den y ≡ D * a = ap (λ (n : ℕ). n * den y) (sym (mul-one (num x)) ∙ value→cross x a 1 v) ∙ mul-assoc a (den x) (den y) ∙ mul-comm a D in
+    let bottom : num y * den x ≡ D * b = ap (λ (n : ℕ). n * den x) (sym (mul-one (num y)) ∙ value→cross y b 1 w) ∙ mul-right-comm b (den y) (den x) ∙ mul-assoc b (den x) (den y) ∙ mul-comm b D in
+    rw (sub-is x y (plain-of-value x a 1 v) (plain-of-value y b 1 w) (rw (top, bottom) (mul-le-mul-left D l)), top, bottom)
+    (rw (round-same binary32 false (D * a - D * b) D (a - b) 1 (mul-pos (den-pos x) (den-pos y)) (zero-lt-suc 0) (mul-one (D * a - D * b) ∙ sym (mul-sub D a b) ∙ mul-comm D (a - b)))
+    (round-whole binary32 false (a - b) h))
 
 -- ---- a whole number as a float: what `p as f32` means in a contract
 pub whole-value : (p : ℕ) → p ≤ 2 ^ 24 → HasValue (ofInt binary32 (pos p)) false p 1

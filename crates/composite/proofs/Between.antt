@@ -5,17 +5,16 @@ use mathlib.Core.Bool.{true, false}
 use Prim.Native.Nat.{ℕ, _+_, _-_, _*_, _^_, _≤_, _<_}
 use native.Mathlib.Nat.{le-trans, le-of-eq, le-of-lt, le-antisymm, sub-le, lt-of-lt-of-le, lt-of-le-of-lt, le-mul-of-pos-right, le-of-mul-le-mul-right, add-le-add, mul-one, one-mul, mul-comm, mul-assoc, mul-left-comm, mul-mul-mul-comm, mul-sub, add-mul, mul-pos, mul-le-mul, mul-le-mul-right, mul-lt-mul-of-pos-right}
 use native.Mathlib.Omega.{arith}
-use borrow.Author.Tests.{le-ltb}
 use lib.Dec.{T}
 use lib.Pow.{pow-pos}
-use lib.Ieee.{Float, nan, inf, fin, binary32, up, down, round, sum, neg, add, sub, mul}
+use lib.Ieee.{Float, nan, inf, fin, binary32, round, add, sub, mul}
 use lib.Ieee.Exact.{HasValue, round-exact}
 use lib.Ieee.Order.{round-mono}
 use lib.Ieee.Positive.{num, den, den-pos, value→cross, through}
 use Rattle.binary32.specs.Ranges.{one32}
 use Rattle.binary32.specs.Round.{halfUp, roundHalfUp}
 use Rattle.binary32.proofs.Halves.{half-up-mono}
-use Rattle.binary32.proofs.Values.{plain, plain-nonneg, plain-of-value, le→cross, add-is}
+use Rattle.binary32.proofs.Values.{plain, plain-nonneg, plain-of-value, le→cross, add-is, sub-is}
 use Rattle.binary32.proofs.Rounded.{rounded}
 
 -- ---- the order of fractions: a / c ≤ b / d, and what keeps it
@@ -74,11 +73,7 @@ held {g} G a c lo hi C H l h =
 
 -- ---- 1 - x, x * y and x + y
 one-minus-is : (x : Float) → T (plain x) → num x ≤ den x → sub binary32 one32 x ≡ round binary32 false (den x - num x) (den x)
-unfolding sub add neg sum
-one-minus-is nan p h = absurd p
-one-minus-is (inf s) p h = absurd p
-one-minus-is (fin true m e) p h = absurd p
-one-minus-is (fin false m e) p h = rw (one-mul (down e), mul-one (m * up e), le-ltb (down e) (m * up e) h)
+one-minus-is x p h = let law = sub-is one32 x tt p (rw (one-mul (den x), mul-one (num x)) h) in rw (one-mul (den x), mul-one (num x)) at law
 
 mul-plain : (x y : Float) → T (plain x) → T (plain y) → mul binary32 x y ≡ round binary32 false (num x * num y) (den x * den y)
 unfolding mul

@@ -2,6 +2,7 @@
 use counting::words::pack_pixels;
 use counting::words::unpack_pixels;
 use unmultiply::unmultiply;
+use unmultiply::unmultiply_two;
 ghost use mathlib.Core.Path.{_≡_};
 ghost use mathlib.Core.Bool.{true, false};
 ghost use Prim.Native.Nat.{ℕ, _*_, _<_};
@@ -18,10 +19,9 @@ fn straight_word(word: u32) -> u32
     ensures { λ r. ⌜ r ≡ newWord true word ⌝ }
 {
     let a = word / 16777216 % 256;
-    let r = unmultiply(word % 256, a);
-    let g = unmultiply(word / 256 % 256, a);
-    let b = unmultiply(word / 65536 % 256, a);
-    r + g * 256 + b * 65536 + a * 16777216
+    let red_green = unmultiply_two(word % 256, word / 256 % 256, a);
+    let blue = unmultiply(word / 65536 % 256, a);
+    red_green + blue * 65536 + a * 16777216
 }
 
 // What the bytes of the pixel in a word are multiplied by: its alpha, and 255 for the alpha itself, which stays.

@@ -1,18 +1,18 @@
--- c times the scale of an alpha is less than a half away from the channel divided by it, a half itself taken upward. The value is held between
--- steps of a grid that is the finer the smaller it is.
+-- c times the scale of an alpha, both c and the product in units of 2 ^ j, is less than half a unit away from the channel divided by it, a half itself
+-- taken upward. The value is held between steps of a grid that is the finer the smaller it is.
 use mathlib.Core.Path.{_≡_, refl, sym, ap, _∙_}
 use mathlib.Core.Logic.{⊎-elim}
-use mathlib.Core.Bool.{not}
 use Prim.Native.Nat.{ℕ, zero, suc, _+_, _-_, _*_, _/_, _^_, _≤_, _<_}
-use native.Mathlib.Nat.{zero-lt-suc, le-trans, le-of-eq, mul-comm, mul-assoc, mul-left-comm, mul-mul-mul-comm, mul-add, add-mul, mul-le-mul-left, mul-le-mul-right, lt-of-mul-lt-mul-right}
+use native.Mathlib.Nat.{le-trans, le-of-eq, zero-mul, mul-pos, mul-comm, mul-assoc, mul-left-comm, mul-mul-mul-comm, mul-add, add-mul, mul-le-mul, mul-le-mul-left, mul-le-mul-right, lt-of-mul-lt-mul-right}
 use native.Mathlib.Omega.{arith}
-use lib.Dec.{T, lit≤}
+use lib.Dec.{lit≤}
 use lib.IntN.{pos}
-use lib.Ieee.{Float, binary32, add, mul, div, ofInt, toBits, isNan}
+use lib.Pow.{pow-pos, pow-mono, pow-add}
+use lib.Ieee.{Float, binary32, add, mul, div, ofInt}
 use lib.Ieee.Positive.{num, den, den-pos, value→cross}
 use Rattle.picture.proofs.Spans.{le-or-lt}
-use Rattle.binary32.proofs.Values.{plain, plain-nonneg, plain-of-value, whole-value}
-use Rattle.binary32.proofs.Sums.{even32, alone-told, alone-near}
+use Rattle.binary32.proofs.Values.{plain-of-value, whole-value}
+use Rattle.binary32.proofs.Sums.{Near}
 use Rattle.composite.proofs.Between.{Grid, Between, mul-between}
 use Rattle.unmultiply.specs.Outward.{outward}
 use Rattle.unmultiply.proofs.Outward.{at-most, at-least, outward-byte}
@@ -35,28 +35,34 @@ module _ (k q a c : ℕ) where
       one : (n : ℕ) → 1 * n ≡ n
       one n = omega arith
 
--- less than a half away from q
-pub record Near (x : Float) (q : ℕ) : Type 0 where
-  pub flat : T (plain x)
-  pub above : 2 * q * den x < 2 * num x + den x
-  pub below : 2 * num x < 2 * q * den x + den x
-
-pub settled : {x : Float} {l h : ℕ} (k q : ℕ) → 2 * (k * q) + 1 ≤ l + k → h + 1 ≤ 2 * (k * q) + k → Between (2 * k) x l h → Near x q
-settled {x} {l} {h} k q low high v =
-    let D = den x in
+-- a value between such steps, in units of u
+settled : {u g : ℕ} {x : Float} {l h : ℕ} (k q : ℕ) → 0 < u → g * u ≡ 2 * k → 2 * (k * q) + 1 ≤ l + k → h + 1 ≤ 2 * (k * q) + k → Between g x l h → Near u x q
+settled {u} {g} {x} {l} {h} k q U e low high v =
+    let D = den x * u in
+    let d = mul-pos (den-pos x) U in
     let X = num x in
-    let d = den-pos x in
     let twice : 2 * q * D * k ≡ 2 * (k * q) * D = simp (mul-assoc, mul-comm, mul-left-comm) in
-    let value : X * (2 * k) ≡ 2 * X * k = simp (mul-assoc, mul-comm, mul-left-comm) in
+    let value : X * g * u ≡ 2 * X * k = mul-assoc X g u ∙ ap (λ (n : ℕ). X * n) e ∙ simp (mul-assoc, mul-comm, mul-left-comm) in
     let under = mul-le-mul-right D low in
     let over = mul-le-mul-right D high in
     record {
       flat = v .flat;
-      above = lt-of-mul-lt-mul-right k (omega (arith, twice, value, under, add-mul (2 * (k * q)) 1 D, add-mul l k D, v .above .le, add-mul (2 * X) D k, mul-comm D k));
-      below = lt-of-mul-lt-mul-right k (omega (arith, twice, value, over, add-mul (2 * (k * q)) k D, add-mul h 1 D, v .below .le, add-mul (2 * q * D) D k, mul-comm D k));
+      above = lt-of-mul-lt-mul-right k (omega (arith, twice, value, under, add-mul (2 * (k * q)) 1 D, add-mul l k D, mul-le-mul-right u (v .above .le), mul-assoc l (den x) u, add-mul (2 * X) D k, mul-comm D k));
+      below = lt-of-mul-lt-mul-right k (omega (arith, twice, value, over, add-mul (2 * (k * q)) k D, add-mul h 1 D, mul-le-mul-right u (v .below .le), mul-assoc h (den x) u, add-mul (2 * q * D) D k, mul-comm D k));
     }
 
-module _ (c a : ℕ) (low : c ≤ a) (some : 0 < a) (byte : a ≤ 255) where
+-- a grid of 2 ^ e steps
+steps-of : (e : ℕ) → e ≤ 149 → Grid (2 ^ e)
+steps-of e l =
+    let all : 149 - e + e ≡ 149 = omega arith in
+    record {
+      step = pow-pos e;
+      digits = 149 - e;
+      whole = sym (pow-add 2 (149 - e) e) ∙ ap (λ (n : ℕ). 2 ^ n) all;
+      room = le-trans (le-of-eq (sym (pow-add 2 24 (149 - e)))) (pow-mono {j = 277} (omega arith));
+    }
+
+module _ (j c a : ℕ) (place : j ≤ 16) (low : c ≤ a) (some : 0 < a) (byte : a ≤ 255) where
   abbrev q : ℕ
   q = outward c a
 
@@ -64,19 +70,27 @@ module _ (c a : ℕ) (low : c ≤ a) (some : 0 < a) (byte : a ≤ 255) where
   q-most = omega (arith, outward-byte c a low)
 
   abbrev value : Float
-  value = mul binary32 (ofInt binary32 (pos c)) (scale a)
+  value = mul binary32 (ofInt binary32 (pos (c * 2 ^ j))) (scale a)
 
-  channel-in : Between 1 (ofInt binary32 (pos c)) c c
+  channel-in : Between 1 (ofInt binary32 (pos (c * 2 ^ j))) (c * 2 ^ j) (c * 2 ^ j)
   channel-in =
-      let x = ofInt binary32 (pos c) in
-      let v = whole-value c (le-trans (le-trans low byte) (lit≤ tt)) in
-      let e = value→cross x c 1 v in
-      record { flat = plain-of-value x c 1 v; above = record { le = le-of-eq (sym e) }; below = record { le = le-of-eq e } }
+      let x = ofInt binary32 (pos (c * 2 ^ j)) in
+      let v = whole-value (c * 2 ^ j) (le-trans (mul-le-mul (le-trans low byte) (pow-mono place)) (lit≤ tt)) in
+      let e = value→cross x (c * 2 ^ j) 1 v in
+      record { flat = plain-of-value x (c * 2 ^ j) 1 v; above = record { le = le-of-eq (sym e) }; below = record { le = le-of-eq e } }
 
   -- by a grid on which q and a half is a value, and c is not too little for a step
-  by-grid : (k l h : ℕ) → Grid (2 * k) → h < 2 ^ 24 → 2 * (k * q) + 1 ≤ l + k → h + 1 ≡ 2 * (k * q) + k → l * (1 * (2048 * a)) ≤ c * 522241 * (2 * k) → 6 * (k * c) + 2048 * a ≤ 2048 * k → Near value q
-  by-grid k l h G H u o m n =
-      settled k q u (le-of-eq o) (mul-between channel-in (scale-in a some byte) G l h (omega arith) H (record { le = m }) (record { le = step-high k q a c h o (at-least c a some) n }))
+  by-grid : (i k l h : ℕ) → 16 ≤ i → i ≤ 149 → 2 ^ i ≡ 2 * k → h < 2 ^ 24 → 2 * (k * q) + 1 ≤ l + k → h + 1 ≡ 2 * (k * q) + k → l * (1 * (2048 * a)) ≤ c * 522241 * (2 * k) → 6 * (k * c) + 2048 * a ≤ 2048 * k → Near (2 ^ j) value q
+  by-grid i k l h I R e H u o m n =
+      let all : i - j + j ≡ i = omega arith in
+      let apart : 2 ^ (i - j) * 2 ^ j ≡ 2 * k = sym (pow-add 2 (i - j) j) ∙ ap (λ (n : ℕ). 2 ^ n) all ∙ e in
+      settled k q (pow-pos j) apart u (le-of-eq o)
+      (mul-between channel-in (scale-in a some byte) (steps-of (i - j) (omega arith)) l h (omega arith) H
+      (record { le = rw (placed 522241 (2 ^ (i - j)), apart) m })
+      (record { le = rw (placed 522243 (2 ^ (i - j)), apart) (step-high k q a c h o (at-least c a some) n) }))
+    where
+      placed : (n g : ℕ) → c * 2 ^ j * n * g ≡ c * n * (g * 2 ^ j)
+      placed n g = simp (mul-assoc, mul-comm)
 
   -- c is not too little for a step where q is not too little for the grid
   enough : (k w : ℕ) → w + 1 ≡ 2 * q → 522240 ≤ k * w → 1024 * a ≤ k * c
@@ -91,47 +105,32 @@ module _ (c a : ℕ) (low : c ≤ a) (some : 0 < a) (byte : a ≤ 255) where
       less p = omega (arith, at-most c a some)
 
   -- where q is at least 1 and not too little for the grid
-  above-grid : (k : ℕ) → Grid (2 * k) → 0 < k → k ≤ 2 * (k * q) → 522240 ≤ k * (2 * q - 1) → 1 ≤ q → 2 * (k * q) + k - 1 < 2 ^ 24 → 6 * (k * c) + 2048 * a ≤ 2048 * k → Near value q
-  above-grid k G p r w o H n =
-      by-grid k (2 * (k * q) + 1 - k) (2 * (k * q) + k - 1) G H (omega arith) (omega arith) (step-low k q a c (2 * (k * q) + 1 - k) (omega arith) (at-most c a some) (enough k (2 * q - 1) (omega arith) w)) n
+  above-grid : (i k : ℕ) → 16 ≤ i → i ≤ 149 → 2 ^ i ≡ 2 * k → 0 < k → k ≤ 2 * (k * q) → 522240 ≤ k * (2 * q - 1) → 1 ≤ q → 2 * (k * q) + k - 1 < 2 ^ 24 → 6 * (k * c) + 2048 * a ≤ 2048 * k → Near (2 ^ j) value q
+  above-grid i k I R e p r w o H n =
+      by-grid i k (2 * (k * q) + 1 - k) (2 * (k * q) + k - 1) I R e H (omega arith) (omega arith) (step-low k q a c (2 * (k * q) + 1 - k) (omega arith) (at-most c a some) (enough k (2 * q - 1) (omega arith) w)) n
 
-  pub is-near : Near value q
+  is-near : Near (2 ^ j) value q
   is-near =
       ⊎-elim
-      (λ (m : 64 ≤ q). above-grid 32768 (record { step = zero-lt-suc 65535; digits = 133; whole = refl; room = lit≤ tt }) (omega arith) (omega arith) (omega arith) (omega arith) (omega (arith, q-most)) (omega arith))
+      (λ (m : 64 ≤ q). above-grid 16 32768 (omega arith) (omega arith) refl (omega arith) (omega arith) (omega arith) (omega arith) (omega (arith, q-most)) (omega arith))
       (λ (few : q < 64).
       ⊎-elim
-      (λ (m : 16 ≤ q). above-grid 131072 (record { step = zero-lt-suc 262143; digits = 131; whole = refl; room = lit≤ tt }) (omega arith) (omega arith) (omega arith) (omega arith) (omega arith) (omega arith))
+      (λ (m : 16 ≤ q). above-grid 18 131072 (omega arith) (omega arith) refl (omega arith) (omega arith) (omega arith) (omega arith) (omega arith) (omega arith))
       (λ (fewer : q < 16).
       ⊎-elim
-      (λ (m : 1 ≤ q). above-grid 524288 fine (omega arith) (omega arith) (omega arith) (omega arith) (omega arith) (omega arith))
-      (λ (m : q < 1). by-grid 524288 0 524287 fine (lit≤ tt) (omega arith) (omega arith) (omega arith) (omega arith))
+      (λ (m : 1 ≤ q). above-grid 20 524288 (omega arith) (omega arith) refl (omega arith) (omega arith) (omega arith) (omega arith) (omega arith) (omega arith))
+      (λ (m : q < 1). by-grid 20 524288 0 524287 (omega arith) (omega arith) refl (lit≤ tt) (omega arith) (omega arith) (omega arith) (omega arith))
       (le-or-lt 1 q))
       (le-or-lt 16 q))
       (le-or-lt 64 q)
-    where
-      fine : Grid 1048576
-      fine = record { step = zero-lt-suc 1048575; digits = 129; whole = refl; room = lit≤ tt }
 
--- what the sum with 2 ^ 23 says of a value that is near
-near-bits : (x : Float) (q : ℕ) → q ≤ 255 → Near x q → T (not (isNan (add binary32 x even32))) × (toBits binary32 (add binary32 x even32) ≡ 1258291200 + q)
-near-bits x q b n =
-    let p = plain-nonneg x (n .flat) in
-    let m : num x ≤ 256 * den x = omega (arith, n .below, mul-assoc 2 q (den x), mul-le-mul-right (den x) b) in
-    (alone-told x p m, alone-near x p m q (n .above) (n .below))
+-- under alpha 0 a channel is 0, and nothing is added
+none : (j : ℕ) → Near (2 ^ j) (mul binary32 (ofInt binary32 (pos 0)) (scale 0)) 0
+unfolding scale add mul ofInt div
+none j = record { flat = tt; above = omega (arith, pow-pos j); below = omega (arith, pow-pos j) }
 
--- the sum, and what its bits say
-abbrev pub read : ℕ → ℕ → Float
-read c a = add binary32 (mul binary32 (ofInt binary32 (pos c)) (scale a)) even32
-
-none : T (not (isNan (read 0 0))) × (toBits binary32 (read 0 0) ≡ 1258291200)
-unfolding scale isNan add mul ofInt div toBits
-none = (tt, refl)
-
-pub reads : (c a : ℕ) → c ≤ a → a ≤ 255 → T (not (isNan (read c a))) × (toBits binary32 (read c a) ≡ 1258291200 + outward c a)
+pub divided : (j c a : ℕ) → j ≤ 16 → c ≤ a → a ≤ 255 → Near (2 ^ j) (mul binary32 (ofInt binary32 (pos (c * 2 ^ j))) (scale a)) (outward c a)
 unfolding outward
-reads zero zero l b = none
-reads (suc c) zero l b = absurd (omega arith)
-reads c (suc a) l b =
-    let some : 0 < suc a = omega arith in
-    near-bits (value c (suc a) l some b) (q c (suc a) l some b) (q-most c (suc a) l some b) (is-near c (suc a) l some b)
+divided j zero zero p l b = rw (zero-mul (2 ^ j)) (none j)
+divided j (suc c) zero p l b = absurd (omega arith)
+divided j c (suc a) p l b = is-near j c (suc a) p l (omega arith) b

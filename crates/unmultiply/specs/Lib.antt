@@ -1,2 +1,2 @@
--- The definition that the contract cites of a channel divided by its alpha.
+-- The definitions that the contracts cite of a channel divided by its alpha.
 pub mod Outward
