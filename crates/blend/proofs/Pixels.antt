@@ -10,14 +10,14 @@ use Rattle.picture.proofs.Spans.{span-none, span-more}
 use Rattle.passes.specs.Written.{lane}
 use Rattle.blend.specs.Blend.{mix}
 use Rattle.pixels.specs.Pixels.{pixel, pixelFrom, withPixelFrom}
-use Rattle.blend.specs.Pixels.{channelOf, mixPixels}
+use Rattle.blend.specs.Pixels.{channelOf, byChannel, mixPixels}
 
--- byte k of four blended pixels is that byte of each, blended
-module _ {p q r s m : Pixel} (a b c d : ℕ → ℕ) (ep : p ≡ pixel a) (eq : q ≡ pixel b) (er : r ≡ pixel c) (es : s ≡ pixel d) (em : m ≡ mixPixels p q r s) where
-  pub bytes-mix : (k : ℕ) → k < 4 → channelOf m k ≡ mix (a k) (b k) (c k) (d k)
-  bytes-mix k l = rw (em, ep, eq, er, es) (each k l)
+-- byte k of four pixels made one, channel by channel, is made of that byte of each
+module _ (f : ℕ → ℕ → ℕ → ℕ → ℕ) {p q r s m : Pixel} (a b c d : ℕ → ℕ) (ep : p ≡ pixel a) (eq : q ≡ pixel b) (er : r ≡ pixel c) (es : s ≡ pixel d) (em : m ≡ byChannel f p q r s) where
+  pub bytes-made : (k : ℕ) → k < 4 → channelOf m k ≡ f (a k) (b k) (c k) (d k)
+  bytes-made k l = rw (em, ep, eq, er, es) (each k l)
     where
-      each : (k : ℕ) → k < 4 → channelOf (mixPixels (pixel a) (pixel b) (pixel c) (pixel d)) k ≡ mix (a k) (b k) (c k) (d k)
+      each : (k : ℕ) → k < 4 → channelOf (byChannel f (pixel a) (pixel b) (pixel c) (pixel d)) k ≡ f (a k) (b k) (c k) (d k)
       each zero l = refl
       each (suc zero) l = refl
       each (suc (suc zero)) l = refl
@@ -34,7 +34,7 @@ module _ (src : List ℕ) (start : ℕ) where
       p ≡ pixelFrom src (start + a * 4) → q ≡ pixelFrom src (start + b * 4) → r ≡ pixelFrom src (start + c * 4) → s ≡ pixelFrom src (start + d * 4) → m ≡ mixPixels p q r s →
       (k : ℕ) → k < 4 → channelOf m k ≡ mix (lane src start 4 k a) (lane src start 4 k b) (lane src start 4 k c) (lane src start 4 k d)
   pixels-mix a b c d ep eq er es =
-      bytes-mix _ _ _ _ (ep ∙ pixel-lanes a) (eq ∙ pixel-lanes b) (er ∙ pixel-lanes c) (es ∙ pixel-lanes d)
+      bytes-made mix _ _ _ _ (ep ∙ pixel-lanes a) (eq ∙ pixel-lanes b) (er ∙ pixel-lanes c) (es ∙ pixel-lanes d)
 
 -- a pixel written: its channels, one after another
 pub pixel-run : (d : List ℕ) (o : ℕ) (p : Pixel) → o + 4 ≤ length d →

@@ -7,7 +7,7 @@ ghost use Rattle.picture.specs.Spans.{Run};
 ghost use Rattle.passes.specs.Passes.{halve, double};
 ghost use Rattle.pixels.specs.Pixels.{pixelFrom};
 ghost use Rattle.blend.specs.Tapped.{offsetOf, tapOf, tapsOf, tapped, LineRoom, Output, Blendable};
-ghost use Rattle.blend.specs.Pixels.{channelOf, mixPixels};
+ghost use Rattle.blend.specs.Pixels.{channelOf, weighedPixels, mixPixels};
 ghost use Rattle.blend.specs.Parts.{Room, PassPartInside};
 use edges::At;
 use edges::extend;
@@ -102,7 +102,7 @@ fn blend(a: u8, b: u8, c: u8, d: u8, wa: u16, wb: u16, wc: u16, wd: u16) -> u8
 }
 
 // The taps of the line at start, blended lane by lane into the element at o.
-pub fn blend_element(src: &[u8], start: usize, stride: usize, t: Taps, dst: &mut [u8], o: usize)
+fn blend_lanes(src: &[u8], start: usize, stride: usize, t: Taps, dst: &mut [u8], o: usize)
     requires { ⌜ Blendable (now src) (now dst) t start stride o ⌝ }
     ensures { λ _. ⌜ Run 0 (now (dst .entry)) (now (dst .exit)) o stride (tapped (now (src .entry)) start t) ⌝ }
 {
@@ -140,6 +140,19 @@ fn read_pixel(src: &[u8], start: usize, i: usize) -> Pixel
     }
 }
 
+// Four pixels in their weights, over 8, rounded, channel by channel.
+fn weigh_pixels(p: Pixel, q: Pixel, r: Pixel, s: Pixel, wa: u16, wb: u16, wc: u16, wd: u16) -> Pixel
+    requires { ⌜ wa + wb + wc + wd ≤ 8 ⌝ }
+    ensures { λ m. ⌜ m ≡ weighedPixels wa wb wc wd p q r s ⌝ }
+{
+    Pixel {
+        r: blend(p.r, q.r, r.r, s.r, wa, wb, wc, wd),
+        g: blend(p.g, q.g, r.g, s.g, wa, wb, wc, wd),
+        b: blend(p.b, q.b, r.b, s.b, wa, wb, wc, wd),
+        a: blend(p.a, q.a, r.a, s.a, wa, wb, wc, wd),
+    }
+}
+
 // Four pixels blended in weights 1, 3, 3, 1, channel by channel.
 fn blend_pixels(p: Pixel, q: Pixel, r: Pixel, s: Pixel) -> Pixel
     ensures { λ m. ⌜ m ≡ mixPixels p q r s ⌝ }
@@ -162,6 +175,30 @@ fn write_pixel(dst: &mut [u8], o: usize, i: usize, p: Pixel)
     dst[at + 1] = p.g;
     dst[at + 2] = p.b;
     dst[at + 3] = p.a;
+}
+
+// The taps of the line at start, pixels, blended into the pixel at o. All are read before one is stored, as by `halve_pixel`.
+fn blend_pixel(src: &[u8], start: usize, t: Taps, dst: &mut [u8], o: usize)
+    requires { ⌜ Blendable (now src) (now dst) t start 4 o ⌝ }
+    ensures { λ _. ⌜ Run 0 (now (dst .entry)) (now (dst .exit)) o 4 (tapped (now (src .entry)) start t) ⌝ }
+{
+    let p = read_pixel(src, start + t.a, 0);
+    let q = read_pixel(src, start + t.b, 0);
+    let r = read_pixel(src, start + t.c, 0);
+    let s = read_pixel(src, start + t.d, 0);
+    write_pixel(dst, o, 0, weigh_pixels(p, q, r, s, t.wa, t.wb, t.wc, t.wd));
+}
+
+// The taps of the line at start, blended into the element at o: of pixels at once, of any other elements lane by lane.
+pub fn blend_element(src: &[u8], start: usize, stride: usize, t: Taps, dst: &mut [u8], o: usize)
+    requires { ⌜ Blendable (now src) (now dst) t start stride o ⌝ }
+    ensures { λ _. ⌜ Run 0 (now (dst .entry)) (now (dst .exit)) o stride (tapped (now (src .entry)) start t) ⌝ }
+{
+    if stride == 4 {
+        blend_pixel(src, start, t, dst, o);
+        return;
+    }
+    blend_lanes(src, start, stride, t, dst, o);
 }
 
 // Output x of a row, halved, whose samples lie inside. All are read before one is stored, so that the compiler keeps a pixel's channels in one vector.
@@ -243,7 +280,7 @@ fn halve_lanes(
         At::Inside(at + 2),
         stride,
     );
-    blend_element(src, start, stride, t, dst, o + x * stride);
+    blend_lanes(src, start, stride, t, dst, o + x * stride);
 }
 
 // The same as `double_pixel`, of elements of any width, lane by lane.
@@ -262,8 +299,8 @@ fn double_lanes(
     let p = At::Inside(x);
     let q = At::Inside(x + 1);
     let at = o + (2 * x + 1) * stride;
-    blend_element(src, start, stride, taps_of(q, p, p, q, stride), dst, at);
-    blend_element(
+    blend_lanes(src, start, stride, taps_of(q, p, p, q, stride), dst, at);
+    blend_lanes(
         src,
         start,
         stride,

@@ -29,8 +29,8 @@ taps-of-requires c κs =
     let st = c .before .before in
     omega (arith, element-ends (st .pre .1) (st .args .x) (omega arith), element-ends (st .pre .1) (st .args .x + 1) (omega arith))
 
-blend-element-requires : tie.Need-blend-element-requires
-blend-element-requires c κs =
+blend-lanes-requires : tie.Need-blend-lanes-requires
+blend-lanes-requires c κs =
     let st = c .before .before .before .before in
     let a = st .args in
     taps-room
@@ -43,20 +43,20 @@ taps-of-requires-2 c κs =
     let st = c .before .before .before .before .before .before .before in
     omega (arith, element-ends (st .pre .1) (st .args .x) (omega arith), element-ends (st .pre .1) (st .args .x + 1) (omega arith))
 
-blend-element-requires-2 : tie.Need-blend-element-requires-2
-blend-element-requires-2 c κs =
+blend-lanes-requires-2 : tie.Need-blend-lanes-requires-2
+blend-lanes-requires-2 c κs =
     let b = c .before .before .before .before in
     let st = b .before .before .before .before .before in
     let a = st .args in
     taps-room
     (taps-fit (Inside (a .x)) (Inside (a .x + 1)) (Inside (a .x + 1)) (Inside (a .x)) (a .stride) (c .before .taps-of2 .ensures) (a .len) (omega arith) (omega arith) (omega arith) (omega arith) (omega arith))
     (st .pre .1 .src-ends)
-    (omega (arith, room st, b .blend-element .kept .1 .1 .1 .1 .0))
+    (omega (arith, room st, b .blend-lanes .kept .1 .1 .1 .1 .0))
 
 same-length : tie.Need-same-length
 same-length c =
     let b2 = c .before .before in
-    b2 .blend-element2 .kept .1 .1 .1 .1 .0 ∙ b2 .before .before .before .before .before .blend-element .kept .1 .1 .1 .1 .0
+    b2 .blend-lanes2 .kept .1 .1 .1 .1 .0 ∙ b2 .before .before .before .before .before .blend-lanes .kept .1 .1 .1 .1 .0
 
 returns : tie.Need-returns
 returns c =
@@ -75,12 +75,12 @@ returns c =
     (span-join (omega (arith, scale 0 (a .stride) (2 * x + 1) (2 * x + 2) (omega arith))) (omega (arith, scale 0 (a .stride) (2 * x + 2) (2 * x + 2 + 1) (omega arith)))
     (rw two at
     (element-made (double mode) src (a .start) (a .len) (a .stride) (2 * x + 1)
-    (span-same (b1 .blend-element .ensures)
+    (span-same (b1 .blend-lanes .ensures)
     (λ k _ _.
     taps-mix (Inside (x + 1)) (Inside x) (Inside x) (Inside (x + 1)) (a .stride) (t1 .taps-of .ensures) src (a .start) k
     ∙ odd-inside mode (a .len) x (lane src (a .start) (a .stride) k) (st .pre .0)))))
     (span-element (λ y k. double mode (a .len) (lane src (a .start) (a .stride) k) y) (2 * x + 2) (omega (arith, next x (a .stride)))
-    (span-same (b2 .blend-element2 .ensures)
+    (span-same (b2 .blend-lanes2 .ensures)
     (λ k _ _.
     taps-mix (Inside x) (Inside (x + 1)) (Inside (x + 1)) (Inside x) (a .stride) (t2 .taps-of2 .ensures) src (a .start) k
     ∙ even-inside mode (a .len) x (lane src (a .start) (a .stride) k) (st .pre .0)))))
@@ -95,9 +95,9 @@ double-lanes-spec =
     (λ c. omega (arith, room (c .before .before)))
     (λ c. omega (arith, room (c .before .before)))
     taps-of-requires
-    blend-element-requires
+    blend-lanes-requires
     taps-of-requires-2
     (λ c. omega (arith, room (c .before .before .before .before .before .before .before .before .before)))
-    blend-element-requires-2
+    blend-lanes-requires-2
     same-length
     returns)

@@ -24,8 +24,8 @@ taps-of-requires c κs =
     let at = 2 * st .args .x in
     omega (arith, element-ends (st .pre .2) (at - 1) (omega arith), element-ends (st .pre .2) at (omega arith), element-ends (st .pre .2) (at + 1) (omega arith), element-ends (st .pre .2) (at + 2) (omega arith))
 
-blend-element-requires : tie.Need-blend-element-requires
-blend-element-requires c κs =
+blend-lanes-requires : tie.Need-blend-lanes-requires
+blend-lanes-requires c κs =
     let st = c .before .before .before .before in
     let a = st .args in
     let at = 2 * a .x in
@@ -35,7 +35,7 @@ blend-element-requires c κs =
     (room st)
 
 same-length : tie.Need-same-length
-same-length c = c .before .before .blend-element .kept .1 .1 .1 .1 .0
+same-length c = c .before .before .blend-lanes .kept .1 .1 .1 .1 .0
 
 returns : tie.Need-returns
 returns c =
@@ -47,7 +47,7 @@ returns c =
     let at = 2 * a .x in
     λ mode.
     element-made (halve mode) src (a .start) (a .len) (a .stride) (a .x)
-    (span-same (b .blend-element .ensures)
+    (span-same (b .blend-lanes .ensures)
     (λ k _ _.
     taps-mix (Inside (at - 1)) (Inside at) (Inside (at + 1)) (Inside (at + 2)) (a .stride) (t .taps-of .ensures) src (a .start) k
     ∙ halved-inside mode (a .len) (a .x) (lane src (a .start) (a .stride) k) (st .pre .0) (st .pre .1)))
@@ -63,6 +63,6 @@ halve-lanes-spec =
     taps-of-requires
     (λ c. omega (arith, room (c .before .before .before .before)))
     (λ c. omega (arith, room (c .before .before .before .before)))
-    blend-element-requires
+    blend-lanes-requires
     same-length
     returns)
