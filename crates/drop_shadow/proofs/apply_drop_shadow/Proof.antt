@@ -38,14 +38,4 @@ returns c =
     ∙ sym (shadowed-is (a .mode) (a .weights .now) (a .n) (a .recipe) w h zw zh (a .composite) p)
 
 pub apply-drop-shadow-spec : {M : Type 1} → statement M
-apply-drop-shadow-spec =
-    tie.close
-    (tie.spec
-    (λ c κs. search needs)
-    (λ c κs. search needs)
-    (λ c κs. search needs)
-    write-colored-shadow-requires
-    (λ c. search needs)
-    (λ c. search needs)
-    (λ c. search needs)
-    returns)
+apply-drop-shadow-spec = tie.close (tie.spec (λ c κs. search needs) (λ c κs. search needs) (λ c κs. search needs) write-colored-shadow-requires (λ c. search needs) (λ c. search needs) (λ c. search needs) returns)

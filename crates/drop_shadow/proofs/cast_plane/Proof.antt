@@ -24,11 +24,4 @@ returns c =
     ∙ cast-done (a .mode) (a .weights .now) (a .n) (a .recipe) (a .size .w) (a .size .h) (s .pre .sized .w-low) (s .pre .sized .h-low) (a .plane .now) _ (moved .offset-plane .ensures)
 
 pub cast-plane-spec : {M : Type 1} → statement M
-cast-plane-spec =
-    tie.close
-    (tie.spec
-    (λ c κs. search needs)
-    blur-form-requires
-    (λ c. search needs)
-    (λ c. search needs)
-    returns)
+cast-plane-spec = tie.close (tie.spec (λ c κs. search needs) blur-form-requires (λ c. search needs) (λ c. search needs) returns)

@@ -43,15 +43,4 @@ returns-2 c =
     rw (v .shadow-accepted .ensures, mode .before .full-size .ensures, mode .edge-mode .ensures) (done _ _ _ zero)
 
 pub shadow-spec : {M : Type 1} → statement M
-shadow-spec =
-    tie.close
-    (tie.spec
-    (λ c κs. search needs)
-    returns
-    full-size-requires
-    (λ c κs. search needs)
-    shadow-accepted-requires
-    (λ c. search needs)
-    (λ c. search needs)
-    (λ c. search needs)
-    returns-2)
+shadow-spec = tie.close (tie.spec (λ c κs. search needs) returns full-size-requires (λ c κs. search needs) shadow-accepted-requires (λ c. search needs) (λ c. search needs) (λ c. search needs) returns-2)

@@ -31,18 +31,4 @@ returns c =
     )
 
 pub shadow-accepted-spec : {M : Type 1} → statement M
-shadow-accepted-spec =
-    tie.close
-    (tie.spec
-    (λ c κs. search needs)
-    (λ c. search needs)
-    slice-aggregate-apply-drop-shadow
-    (λ c. search needs)
-    slice-aggregate-apply-drop-shadow-2
-    apply-drop-shadow-requires
-    (λ c κs. search needs)
-    (λ c κs. search needs)
-    (λ c. search needs)
-    (λ c. search needs)
-    (λ c. search needs)
-    returns)
+shadow-accepted-spec = tie.close (tie.spec (λ c κs. search needs) (λ c. search needs) slice-aggregate-apply-drop-shadow (λ c. search needs) slice-aggregate-apply-drop-shadow-2 apply-drop-shadow-requires (λ c κs. search needs) (λ c κs. search needs) (λ c. search needs) (λ c. search needs) (λ c. search needs) returns)

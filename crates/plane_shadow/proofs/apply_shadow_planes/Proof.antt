@@ -36,19 +36,4 @@ returns c =
     (planes-shadowed (a .mode) (a .weights .now) (a .n) (a .recipe) (a .size .w) (a .size .h) (s .pre .0 .sized .w-low) (s .pre .0 .sized .h-low) (a .composite) (a .planes .now) (length (a .plane .now)) (4 * length (a .plane .now) - 3 * length (a .plane .now)) (s .pre .0 .plane-is) (omega arith))
 
 pub apply-shadow-planes-spec : {M : Type 1} → statement M
-apply-shadow-planes-spec =
-    tie.close
-    (tie.spec
-    (λ c. search needs)
-    (λ c. search needs)
-    (λ c. search needs)
-    (λ c. search needs)
-    (λ c. search needs)
-    (λ c κs. search needs)
-    cast-plane-requires
-    (λ c κs. search needs)
-    write-plane-shadow-requires
-    (λ c. search needs)
-    (λ c. search needs)
-    (λ c. search needs)
-    returns)
+apply-shadow-planes-spec = tie.close (tie.spec (λ c. search needs) (λ c. search needs) (λ c. search needs) (λ c. search needs) (λ c. search needs) (λ c κs. search needs) cast-plane-requires (λ c κs. search needs) write-plane-shadow-requires (λ c. search needs) (λ c. search needs) (λ c. search needs) returns)

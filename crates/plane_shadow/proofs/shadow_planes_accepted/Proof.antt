@@ -31,18 +31,4 @@ returns c =
     )
 
 pub shadow-planes-accepted-spec : {M : Type 1} → statement M
-shadow-planes-accepted-spec =
-    tie.close
-    (tie.spec
-    (λ c κs. search needs)
-    (λ c. search needs)
-    slice-aggregate-apply-shadow-planes
-    (λ c. search needs)
-    slice-aggregate-apply-shadow-planes-2
-    apply-shadow-planes-requires
-    (λ c κs. search needs)
-    (λ c κs. search needs)
-    (λ c. search needs)
-    (λ c. search needs)
-    (λ c. search needs)
-    returns)
+shadow-planes-accepted-spec = tie.close (tie.spec (λ c κs. search needs) (λ c. search needs) slice-aggregate-apply-shadow-planes (λ c. search needs) slice-aggregate-apply-shadow-planes-2 apply-shadow-planes-requires (λ c κs. search needs) (λ c κs. search needs) (λ c. search needs) (λ c. search needs) (λ c. search needs) returns)

@@ -3,7 +3,8 @@ use Prim.Native.Nat.{_-_}
 use native.Mathlib.Omega.{arith}
 use lib.ListN.{length}
 use Rattle.vector_points.specs.Points.{pointIn}
-use Rattle.vector_buffers.proofs.Filled.{Filling, fills-none, fills-more, fills-places}
+use Rattle.picture.proofs.Filled.{Filling, fills-none, fills-more}
+use Rattle.vector_buffers.proofs.Filled.{fills-places}
 use Rattle.vector_points.proofs.fill_points.Statement.{statement}
 use Rattle.vector_points.proofs.fill_points.Tie as tie
 

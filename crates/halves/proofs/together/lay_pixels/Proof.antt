@@ -7,7 +7,7 @@ use lib.ListN.{length, getD}
 use Rattle.picture.specs.Spans.{Run}
 use Rattle.picture.proofs.Spans.{span-none, span-ends}
 use Rattle.counting.specs.Words.{unpacked, byteIn}
-use Rattle.halves.proofs.Joined.{pixel-more}
+use Rattle.pixels.proofs.Painting.{pixel-more}
 use Rattle.halves.proofs.together.lay_pixels.Statement.{statement}
 use Rattle.halves.proofs.together.lay_pixels.Tie as tie
 
@@ -29,7 +29,7 @@ loop-again c =
     let l = made .before .before .before .before .before in
     let a = l .before .before .before .before .args in (
       omega arith,
-      pixel-more (λ i. byteIn (getD (a .low .now) i 0 + getD (a .high .now) i 0 * 65536)) (a .dst .now) (a .m) (l .loop .k) _ _ (read .unpack .result) (l .loop .inv .1) (omega arith) (laid .set-pixel .ensures)
+      pixel-more (λ i. byteIn (getD (a .low .now) i 0 + getD (a .high .now) i 0 * 65536)) (l .loop .k) _ (read .unpack .result) (l .loop .inv .1) (omega arith) (omega arith) (laid .set-pixel .ensures)
           (read .unpack .ensures ∙ ap unpacked (made .word .ensures)),
     )
 

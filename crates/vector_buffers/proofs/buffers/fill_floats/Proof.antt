@@ -4,7 +4,8 @@ use native.Mathlib.Omega.{arith}
 use borrow.Author.Needs.{needs}
 use lib.ListN.{length}
 use Rattle.vector_values.specs.Values.{floatOf}
-use Rattle.vector_buffers.proofs.Filled.{Mapping, fills-none, fills-more, fills-map}
+use Rattle.picture.proofs.Filled.{fills-none, fills-more}
+use Rattle.vector_buffers.proofs.Filled.{Mapping, fills-map}
 use Rattle.vector_buffers.proofs.buffers.fill_floats.Statement.{statement}
 use Rattle.vector_buffers.proofs.buffers.fill_floats.Tie as tie
 

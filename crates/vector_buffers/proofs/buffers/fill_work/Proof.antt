@@ -4,7 +4,7 @@ use native.Mathlib.Omega.{arith}
 use borrow.Author.Needs.{needs}
 use lib.ListN.{length}
 use Rattle.vector_buffers.specs.Buffers.{workByte}
-use Rattle.vector_buffers.proofs.Filled.{Filling, fills-none, fills-more, fills-build}
+use Rattle.picture.proofs.Filled.{Filling, fills-none, fills-more, fills-build}
 use Rattle.vector_buffers.proofs.buffers.fill_work.Statement.{statement}
 use Rattle.vector_buffers.proofs.buffers.fill_work.Tie as tie
 

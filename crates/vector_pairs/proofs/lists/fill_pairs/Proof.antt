@@ -3,7 +3,8 @@ use Prim.Native.Nat.{_-_}
 use native.Mathlib.Omega.{arith}
 use lib.ListN.{length}
 use Rattle.vector_pairs.specs.Pairs.{pairIn}
-use Rattle.vector_buffers.proofs.Filled.{Filling, fills-none, fills-more, fills-places}
+use Rattle.picture.proofs.Filled.{Filling, fills-none, fills-more}
+use Rattle.vector_buffers.proofs.Filled.{fills-places}
 use Rattle.vector_pairs.proofs.lists.fill_pairs.Statement.{statement}
 use Rattle.vector_pairs.proofs.lists.fill_pairs.Tie as tie
 

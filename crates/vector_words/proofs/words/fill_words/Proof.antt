@@ -4,7 +4,8 @@ use native.Mathlib.Omega.{arith}
 use borrow.Author.Needs.{needs}
 use lib.ListN.{length}
 use Rattle.vector_values.specs.Values.{wordOf}
-use Rattle.vector_buffers.proofs.Filled.{Mapping, fills-none, fills-more, fills-map}
+use Rattle.picture.proofs.Filled.{fills-none, fills-more}
+use Rattle.vector_buffers.proofs.Filled.{Mapping, fills-map}
 use Rattle.vector_words.proofs.words.fill_words.Statement.{statement}
 use Rattle.vector_words.proofs.words.fill_words.Tie as tie
 
