@@ -50,12 +50,10 @@ pub fn casting_of(w: u32, h: u32, n: u32, edge: u32, recipe: Recipe, composite: 
     requires { ⌜ wrongSides w h ≡ false ⌝ }
     ensures { λ r. ⌜ r ≡ castingOf w h n edge recipe composite ⌝ }
 {
-    let size = picture::full_size(w, h);
-    let mode = picture::edge_mode(edge);
     Casting {
-        size,
+        size: picture::full_size(w, h),
         n,
-        mode,
+        mode: picture::edge_mode(edge),
         recipe,
         composite,
     }
@@ -67,6 +65,7 @@ pub fn cast_plane(plane: &mut [u8], scratch: &mut [u8], weights: &[f32], cast: C
     ensures { λ _. ⌜ now (plane .exit) ≡ castBytes (cast .mode) (now (weights .entry)) (cast .n) (cast .recipe) (cast .size .w) (cast .size .h) (now (plane .entry)) ⌝ }
 {
     let size = cast.size;
+    let n = cast.n;
     let mode = cast.mode;
     let recipe = cast.recipe;
     shift::offset_plane(plane, size, recipe.dx, recipe.dy);
@@ -74,16 +73,7 @@ pub fn cast_plane(plane: &mut [u8], scratch: &mut [u8], weights: &[f32], cast: C
         planes: 1,
         lanes: 1,
     };
-    gaussian_blur::blur_form(
-        plane,
-        scratch,
-        size,
-        one,
-        cast.n,
-        weights,
-        mode,
-        recipe.strength,
-    );
+    gaussian_blur::blur_form(plane, scratch, size, one, n, weights, mode, recipe.strength);
 }
 
 // Takes the picture's alphas, casts them as a shadow, colours it, and lays the picture over it.

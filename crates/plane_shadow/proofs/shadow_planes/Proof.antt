@@ -25,9 +25,6 @@ fine c =
     let a = c .before .before .before .before .before .before .args in
     accepted (a .planes .now) (a .w) (a .h) (a .scratch .now) (a .copy .now) (a .weights .now) (a .n) (a .edge) (a .recipe) (sym (c .if1 .left) ∙ c .before .shadow-refusal .ensures)
 
-casting-of-requires : tie.Need-casting-of-requires
-casting-of-requires c κs = fine c .0
-
 shadow-planes-accepted-requires : tie.Need-shadow-planes-accepted-requires
 shadow-planes-accepted-requires c κs =
     let made = c .before .before .before in
@@ -42,4 +39,4 @@ returns-2 c =
     rw (v .shadow-planes-accepted .ensures, made .casting-of .ensures) (done _ _ _ (sym (e .before .shadow-refusal .ensures) ∙ e .if1 .left))
 
 pub shadow-planes-spec : {M : Type 1} → statement M
-shadow-planes-spec = tie.close (tie.spec (λ c κs. search needs) returns casting-of-requires shadow-planes-accepted-requires (λ c. search needs) (λ c. search needs) (λ c. search needs) returns-2)
+shadow-planes-spec = tie.close (tie.spec (λ c κs. search needs) returns (λ c κs. fine c .0) shadow-planes-accepted-requires (λ c. search needs) (λ c. search needs) (λ c. search needs) returns-2)
