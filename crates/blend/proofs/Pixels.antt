@@ -1,15 +1,12 @@
 -- Laws of pixels as bytes.
 use mathlib.Core.Path.{_≡_, refl, _∙_}
 use mathlib.Core.List.{List}
-use Prim.Native.Nat.{ℕ, zero, suc, _+_, _*_, _≤_, _<_}
+use Prim.Native.Nat.{ℕ, zero, suc, _+_, _*_, _<_}
 use native.Mathlib.Omega.{arith}
-use lib.ListN.{length, set, length-set}
 use Rattle.picture.specs.declared.Pixel.{Pixel}
-use Rattle.picture.specs.Spans.{Run}
-use Rattle.picture.proofs.Spans.{span-none, span-more}
 use Rattle.passes.specs.Written.{lane}
 use Rattle.blend.specs.Blend.{mix}
-use Rattle.pixels.specs.Pixels.{pixel, pixelFrom, withPixelFrom}
+use Rattle.pixels.specs.Pixels.{pixel, pixelFrom}
 use Rattle.blend.specs.Pixels.{channelOf, byChannel, mixPixels}
 
 -- byte k of four pixels made one, channel by channel, is made of that byte of each
@@ -35,13 +32,3 @@ module _ (src : List ℕ) (start : ℕ) where
       (k : ℕ) → k < 4 → channelOf m k ≡ mix (lane src start 4 k a) (lane src start 4 k b) (lane src start 4 k c) (lane src start 4 k d)
   pixels-mix a b c d ep eq er es =
       bytes-made mix _ _ _ _ (ep ∙ pixel-lanes a) (eq ∙ pixel-lanes b) (er ∙ pixel-lanes c) (es ∙ pixel-lanes d)
-
--- a pixel written: its channels, one after another
-pub pixel-run : (d : List ℕ) (o : ℕ) (p : Pixel) → o + 4 ≤ length d →
-    Run 0 d (withPixelFrom d o p) o 4 (channelOf p)
-unfolding withPixelFrom
-pixel-run d o p l =
-    let one : Run 0 d (set d o (p .r)) o 1 (channelOf p) = span-more {b = 0} (span-none (omega arith)) (omega arith) (omega arith) (omega arith) refl in
-    let two = span-more {b = 1} one (omega arith) (simp length-set (omega arith)) refl refl in
-    let three = span-more {b = 2} two (omega arith) (simp length-set (omega arith)) refl refl in
-    span-more {b = 3} three (omega arith) (simp length-set (omega arith)) refl refl

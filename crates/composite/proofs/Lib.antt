@@ -2,5 +2,4 @@
 pub mod Between
 pub mod Units
 pub mod Whole
-pub mod Writing
 pub mod Laid

@@ -4,13 +4,14 @@ use passes::Form;
 use picture::EdgeMode;
 use picture::FullSize;
 ghost use mathlib.Core.Path.{_≡_};
+ghost use mathlib.Core.Bool.{false};
 ghost use lib.ListN.{length};
-ghost use Rattle.picture.specs.Planes.{bytesOf, cleared};
+ghost use Rattle.picture.specs.Planes.{cleared};
 ghost use Rattle.picture.specs.Sizes.{fullBytes};
-ghost use Rattle.picture.specs.Refusal.{firstOf};
+ghost use Rattle.picture.specs.Refusal.{firstOf, wrongSides};
 ghost use Rattle.picture.specs.Answer.{answered, lentCopy};
-ghost use Rattle.drop_shadow.specs.Shadowed.{colourOf, shadowed};
-ghost use Rattle.drop_shadow.specs.Cast.{castBytes};
+ghost use Rattle.drop_shadow.specs.Shadowed.{colourOf};
+ghost use Rattle.drop_shadow.specs.Cast.{castBytes, castingOf, shadowedBy};
 ghost use Rattle.drop_shadow.specs.Needs.{ShadowReady, ShadowAccepted};
 ghost use Rattle.drop_shadow.specs.Outcome.{eitherShort, notFinite, wrongColour, shadowChecks, shadowOutcome};
 
@@ -36,19 +37,37 @@ pub fn colour_of(recipe: Recipe) -> Colour
     }
 }
 
-// Shifts a plane of alphas, and blurs it when the strength is above zero.
-pub fn cast_plane(
-    plane: &mut [u8],
-    size: FullSize,
-    scratch: &mut [u8],
-    weights: &[f32],
-    n: u32,
-    mode: EdgeMode,
-    recipe: Recipe,
-)
-    requires { ⌜ ShadowReady size (now scratch) (now plane) (now weights) recipe ⌝ }
-    ensures { λ _. ⌜ now (plane .exit) ≡ castBytes mode (now (weights .entry)) n recipe (size .w) (size .h) (now (plane .entry)) ⌝ }
+// How an accepted call casts its shadow: the picture's size, the blur's decimations and edge mode, the recipe, and whether the original is laid over it.
+pub struct Casting {
+    pub size: FullSize,
+    pub n: u32,
+    pub mode: EdgeMode,
+    pub recipe: Recipe,
+    pub composite: bool,
+}
+
+pub fn casting_of(w: u32, h: u32, n: u32, edge: u32, recipe: Recipe, composite: bool) -> Casting
+    requires { ⌜ wrongSides w h ≡ false ⌝ }
+    ensures { λ r. ⌜ r ≡ castingOf w h n edge recipe composite ⌝ }
 {
+    Casting {
+        size: picture::full_size(w, h),
+        n,
+        mode: picture::edge_mode(edge),
+        recipe,
+        composite,
+    }
+}
+
+// Shifts a plane of alphas, and blurs it when the strength is above zero.
+pub fn cast_plane(plane: &mut [u8], scratch: &mut [u8], weights: &[f32], cast: Casting)
+    requires { ⌜ ShadowReady (cast .size) (now scratch) (now plane) (now weights) (cast .recipe) ⌝ }
+    ensures { λ _. ⌜ now (plane .exit) ≡ castBytes (cast .mode) (now (weights .entry)) (cast .n) (cast .recipe) (cast .size .w) (cast .size .h) (now (plane .entry)) ⌝ }
+{
+    let size = cast.size;
+    let n = cast.n;
+    let mode = cast.mode;
+    let recipe = cast.recipe;
     shift::offset_plane(plane, size, recipe.dx, recipe.dy);
     let one = Form {
         planes: 1,
@@ -60,22 +79,20 @@ pub fn cast_plane(
 // Takes the picture's alphas, casts them as a shadow, colours it, and lays the picture over it.
 pub fn apply_drop_shadow(
     picture: &mut [u8],
-    size: FullSize,
     scratch: &mut [u8],
     plane: &mut [u8],
     weights: &[f32],
-    n: u32,
-    mode: EdgeMode,
-    recipe: Recipe,
-    composite: bool,
+    cast: Casting,
 )
-    requires { ⌜ ShadowReady size (now scratch) (now plane) (now weights) recipe ⌝ ∗ ⌜ length (now picture) ≡ fullBytes size ⌝ }
-    ensures { λ _. ⌜ now (picture .exit) ≡ shadowed mode (now (weights .entry)) n recipe composite (size .w) (size .h) (now (picture .entry)) ⌝ }
+    requires { ⌜ ShadowReady (cast .size) (now scratch) (now plane) (now weights) (cast .recipe) ⌝ ∗ ⌜ length (now picture) ≡ fullBytes (cast .size) ⌝ }
+    ensures { λ _. ⌜ now (picture .exit) ≡ shadowedBy cast (now (weights .entry)) (now (picture .entry)) ⌝ }
 {
     composite::take_alphas(plane, picture);
-    cast_plane(plane, size, scratch, weights, n, mode, recipe);
+    cast_plane(plane, scratch, weights, cast);
+    let size = cast.size;
+    let recipe = cast.recipe;
     let colour = colour_of(recipe);
-    composite::write_colored_shadow(plane, picture, size, colour, composite);
+    composite::write_colored_shadow(plane, picture, size, colour, cast.composite);
 }
 
 // Refusal 3's condition, of both work buffers.
@@ -151,30 +168,23 @@ pub fn shadow_refusal(
 // An accepted call: the picture with its shadow, and the work buffers zero where they were used.
 fn shadow_accepted(
     picture: &mut [u8],
-    size: FullSize,
     scratch: &mut [u8],
     copy: &mut [u8],
     weights: &[f32],
-    n: u32,
-    mode: EdgeMode,
-    recipe: Recipe,
-    composite: bool,
+    cast: Casting,
 )
-    requires { ⌜ ShadowAccepted size (now picture) (now scratch) (now copy) (now weights) recipe ⌝ }
-    ensures { λ _. ⌜ lentCopy (now (picture .exit)) (now (scratch .exit)) (now (copy .exit)) ≡ lentCopy (shadowed mode (now (weights .entry)) n recipe composite (size .w) (size .h) (now (picture .entry))) (cleared (bytesOf (size .w) (size .h)) (now (scratch .entry))) (cleared (bytesOf (size .w) (size .h)) (now (copy .entry))) ⌝ }
+    requires { ⌜ ShadowAccepted (cast .size) (now picture) (now scratch) (now copy) (now weights) (cast .recipe) ⌝ }
+    ensures { λ _. ⌜ lentCopy (now (picture .exit)) (now (scratch .exit)) (now (copy .exit)) ≡ lentCopy (shadowedBy cast (now (weights .entry)) (now (picture .entry))) (cleared (fullBytes (cast .size)) (now (scratch .entry))) (cleared (fullBytes (cast .size)) (now (copy .entry))) ⌝ }
 {
+    let size = cast.size;
     let k = size.bytes();
     let area = k / 4;
     apply_drop_shadow(
         picture,
-        size,
         &mut scratch[..area],
         &mut copy[..area],
         weights,
-        n,
-        mode,
-        recipe,
-        composite,
+        cast,
     );
     picture::clear(scratch, k);
     picture::clear(copy, k);
@@ -210,18 +220,7 @@ pub fn shadow(
     if r != 0 {
         return r;
     }
-    let size = picture::full_size(w, h);
-    let mode = picture::edge_mode(edge);
-    shadow_accepted(
-        picture,
-        size,
-        scratch,
-        copy,
-        weights,
-        n,
-        mode,
-        recipe,
-        composite,
-    );
+    let cast = casting_of(w, h, n, edge, recipe, composite);
+    shadow_accepted(picture, scratch, copy, weights, cast);
     0
 }

@@ -4,7 +4,7 @@ use mathlib.Core.List.{List, [], _∷_, _++_, append-assoc}
 use Prim.Native.Nat.{ℕ, zero, suc, _+_, _<_}
 use native.Mathlib.Numerals.{add-one}
 use native.Mathlib.Omega.{arith}
-use lib.ListN.{length, getD, drop, set, length-append, length-drop}
+use lib.ListN.{length, getD, drop, set}
 use lib.Seq.{ext-getD, drop-cons, set-at, getD-at}
 use Rattle.picture.specs.Build.{build}
 
@@ -45,6 +45,3 @@ module _ (f : ℕ → ℕ) (p : List ℕ) (i : ℕ) (h : i < length p) where
   pub build-next : getD (build i f ++ drop i p) i 0 ≡ getD p i 0
   build-next =
       rw (drop-cons p i 0 h, getD-at (build i f) (getD p i 0) (drop (suc i) p) 0 i (length-build i f))
-
-  pub length-build-drop : length (build i f ++ drop i p) ≡ length p
-  length-build-drop = simp (length-append, length-build, length-drop) (omega arith)

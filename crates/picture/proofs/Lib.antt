@@ -8,6 +8,7 @@ pub mod Planes
 pub mod Placed
 pub mod Walk
 pub mod Spans
+pub mod Filled
 pub mod Passed
 pub mod Answers
 pub mod Settled

@@ -1,13 +1,13 @@
--- Laws of a span of values: none yet, one value more, one part after another, and elements of several values each.
+-- Laws of a span of values: none yet, one value more on either side, one part after another, and elements of several values each.
 use mathlib.Core.Path.{_≡_, refl, _∙_}
 use mathlib.Core.Bool.{Bool, true, false}
 use mathlib.Core.List.{List}
-use mathlib.Core.Logic.{_⊎_, inl, inr, ⊎-elim}
+use mathlib.Core.Logic.{_⊎_, inl, inr, ⊎-elim, _≢_}
 use Prim.Native.Nat.{ℕ, _+_, _-_, _*_, _/_, _%_, _≤_, _<_}
 use native.Mathlib.Omega.{arith}
 use native.Mathlib.Nat.{mul-le-mul-right, add-mul, one-mul}
-use borrow.Author.Tests.{ltb-true, ltb-false}
-use lib.Dec.{ltb}
+use borrow.Author.Tests.{ltb-true, ltb-false, eqb-true, eqb-false}
+use lib.Dec.{ltb, eqb}
 use lib.ListN.{length, getD, set, length-set}
 use lib.Seq.{getD-set-same, getD-set-other}
 use Rattle.picture.specs.Spans.{Span, Run}
@@ -33,25 +33,34 @@ module _ {A : Type 0} {none : A} {d : List A} {o a : ℕ} {f : ℕ → A} where
   pub span-none : {b : ℕ} → b ≤ a → Span none d d o a b f
   span-none h = record { size = refl; inside = λ k l m. absurd (omega arith); below = λ j l. refl; above = λ j l. refl }
 
-  -- one value more
-  pub span-more : {e : List A} {b j : ℕ} {v : A} → Span none d e o a b f → a ≤ b → j < length e → j ≡ o + b → v ≡ f b → Span none d (set e j v) o a (b + 1) f
-  span-more {e} {b} {j} {v} s l h p q =
+  -- value k more, next to the span on either side: it is then the values from a′ up to b′
+  put : {e : List A} {b j : ℕ} {v : A} (k a′ b′ : ℕ) → Span none d e o a b f → j < length e → j ≡ o + k → v ≡ f k → (a′ ≤ a) × (b ≤ b′) × (a′ ≤ k) × (k < b′) →
+      ((x : ℕ) → a′ ≤ x → x < b′ → x ≢ k → (a ≤ x) × (x < b)) → Span none d (set e j v) o a′ b′ f
+  put {e} {j = j} {v} k a′ b′ s h p q ends old =
       record {
         size = length-set e j v ∙ s .size;
-        inside = λ k u m.
-            ⊎-elim
-            (λ (n : b ≤ k).
-            let last : k ≡ b = omega arith in
-            let here : o + k ≡ j = omega arith in
-            rw (here, last) (getD-set-same e j v none h ∙ q))
-            (λ (n : k < b). other (o + k) (omega arith) ∙ s .inside k u n)
-            (le-or-lt b k);
-        below = λ i m. other i (omega arith) ∙ s .below i m;
+        inside = λ x u m. by-test x u m (eqb x k) refl;
+        below = λ i m. other i (omega arith) ∙ s .below i (omega arith);
         above = λ i m. other i (omega arith) ∙ s .above i (omega arith);
       }
     where
-      other : (i : ℕ) → (i ≡ j → ⊥) → getD (set e j v) i none ≡ getD e i none
+      other : (i : ℕ) → i ≢ j → getD (set e j v) i none ≡ getD e i none
       other i n = getD-set-other e j i v none n
+
+      by-test : (x : ℕ) → a′ ≤ x → x < b′ → (t : Bool) → eqb x k ≡ t → getD (set e j v) (o + x) none ≡ f x
+      by-test x u m true t = rw (eqb-true x k t, ← p) (getD-set-same e j v none h ∙ q)
+      by-test x u m false t =
+          let n = eqb-false x k t in
+          let l = old x u m n in
+          other (o + x) (λ y. n (omega arith)) ∙ s .inside x (l .0) (l .1)
+
+  -- one value more behind it
+  pub span-more : {e : List A} {b j : ℕ} {v : A} → Span none d e o a b f → a ≤ b → j < length e → j ≡ o + b → v ≡ f b → Span none d (set e j v) o a (b + 1) f
+  span-more {b = b} s l h p q = put b a (b + 1) s h p q (omega arith) (λ x u m n. omega arith)
+
+  -- and in front of it
+  pub span-less : {e : List A} {b j : ℕ} {v : A} (k : ℕ) → a ≡ k + 1 → Span none d e o a b f → a ≤ b → j < length e → j ≡ o + k → v ≡ f k → Span none d (set e j v) o k b f
+  span-less {b = b} k is s l h p q = put k k b s h p q (omega arith) (λ x u m n. omega arith)
 
   -- one part after another
   pub span-join : {e e′ : List A} {b c : ℕ} → a ≤ b → b ≤ c → Span none d e o a b f → Span none e e′ o b c f → Span none d e′ o a c f

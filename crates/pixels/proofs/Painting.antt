@@ -1,15 +1,15 @@
 -- A loop that writes pixel after pixel: what it has so far, what it reads there, a turn, and all of it as a painted picture.
-use mathlib.Core.Path.{_≡_, refl, sym, ap, _∙_}
-use mathlib.Core.List.{List, _++_, append-nil}
+use mathlib.Core.Path.{_≡_, refl, ap, _∙_}
+use mathlib.Core.List.{List}
 use Prim.Native.Nat.{ℕ, _+_, _*_, _/_, _%_, _≤_, _<_}
 use native.Mathlib.Nat.{zero-mul, zero-add, div-add-mod'}
 use native.Mathlib.Omega.{arith}
-use lib.ListN.{length, getD, drop, set, length-set}
-use lib.Seq.{getD-append-add, getD-drop, drop-length}
-use Rattle.picture.specs.Build.{build}
+use lib.ListN.{length, getD, set, length-set}
 use Rattle.picture.specs.Planes.{Plane, bytesOf, chan, painted}
+use Rattle.picture.specs.Spans.{Run}
 use Rattle.picture.specs.declared.Pixel.{Pixel}
-use Rattle.picture.proofs.Build.{length-build, getD-build, build-ext, build-more}
+use Rattle.picture.proofs.Build.{build-ext}
+use Rattle.picture.proofs.Spans.{span-none, span-more, span-join, span-ends, span-at, span-element}
 use Rattle.pixels.specs.Pixels.{pixel, pixelAt, withPixelFrom, withPixel}
 
 -- channel c of pixel i
@@ -25,29 +25,34 @@ pub chan-first : (bytes : List ℕ) (w c x : ℕ) → chan bytes w c x 0 ≡ at 
 unfolding chan
 chan-first bytes w c x = rw (zero-mul w, zero-add x)
 
--- the first j bytes are those of f's pixels, the others are as they were
-abbrev written : (ℕ → ℕ → ℕ) → List ℕ → ℕ → List ℕ
-written f old j = build j (λ k. f (k / 4) (k % 4)) ++ drop j old
+-- a pixel that is written: its channels, one after another
+pub pixel-run : (d : List ℕ) (o : ℕ) (f : ℕ → ℕ) → o + 4 ≤ length d → Run 0 d (withPixelFrom d o (pixel f)) o 4 f
+unfolding withPixelFrom
+pixel-run d o f l =
+    let one : Run 0 d (set d o (f 0)) o 1 f = span-more {b = 0} (span-none (omega arith)) (omega arith) (omega arith) (omega arith) refl in
+    let two = span-more {b = 1} one (omega arith) (simp length-set (omega arith)) refl refl in
+    let three = span-more {b = 2} two (omega arith) (simp length-set (omega arith)) refl refl in
+    span-more {b = 3} three (omega arith) (simp length-set (omega arith)) refl refl
+
+-- one more of g's pixels, of which the first k are there from byte o on
+pub pixel-more : {d e z : List ℕ} {o : ℕ} (g : ℕ → ℕ → ℕ) (k j : ℕ) (q : Pixel) → Run 0 d e o (4 * k) (λ n. g (n / 4) (n % 4)) → j ≡ o + 4 * k → j + 4 ≤ length e →
+    z ≡ withPixelFrom e j q → q ≡ pixel (g k) → Run 0 d z o (4 * (k + 1)) (λ n. g (n / 4) (n % 4))
+pixel-more {e = e} {o = o} g k j q s at room ez eq =
+    let next = span-element {o = o} g k (omega arith) (pixel-run e j (g k) room) in
+    rw (ez, eq) (span-ends (span-join (omega arith) (omega arith) (span-ends s refl (omega arith)) next) refl (omega arith))
 
 -- the first i of n pixels are f's, and the bytes after them are as they were
 pub record Painting (f : ℕ → ℕ → ℕ) (old new : List ℕ) (i n : ℕ) : Type 0 where
-  pub so : new ≡ written f old (4 * i)
+  pub run : Run 0 old new 0 (4 * i) (λ k. f (k / 4) (k % 4))
   pub count : i ≤ n
-  pub same : length new ≡ length old
 
 module _ {f : ℕ → ℕ → ℕ} {old : List ℕ} {n : ℕ} where
   pub begins : Painting f old old 0 n
-  unfolding build
-  begins = record { so = refl; count = omega arith; same = refl }
+  begins = record { run = span-none (omega arith); count = omega arith }
 
   module _ {new : List ℕ} {i : ℕ} (p : Painting f old new i n) where
     reads : (c : ℕ) → at new i c ≡ at old i c
-    reads c =
-        let front = build (4 * i) (λ k. f (k / 4) (k % 4)) in
-        rw (p .so)
-        (ap (λ (k : ℕ). getD (front ++ drop (4 * i) old) (k + c) 0) (sym (length-build (4 * i) (λ k. f (k / 4) (k % 4))))
-        ∙ getD-append-add front (drop (4 * i) old) c 0
-        ∙ getD-drop (4 * i) old c 0)
+    reads c = p .run .above (4 * i + c) (omega arith)
 
     -- the pixel that is next is as it was
     pub next : pixelAt new i ≡ pixelAt old i
@@ -55,31 +60,10 @@ module _ {f : ℕ → ℕ → ℕ} {old : List ℕ} {n : ℕ} where
 
     -- it is written
     pub turn : {z : List ℕ} (q : Pixel) → i < n → 4 * i + 4 ≤ length new → z ≡ withPixel new i q → q ≡ pixel (f i) → Painting f old z (i + 1) n
-    unfolding withPixelFrom
-    turn {z} q l room ez eq =
-        record {
-          so = rw (
-            ez,
-            eq,
-            p .so,
-            more (4 * i) (4 * i + 1) 0 (omega arith) (omega arith) refl,
-            more (4 * i + 1) (4 * i + 2) 1 (omega arith) refl (omega arith),
-            more (4 * i + 2) (4 * i + 3) 2 (omega arith) refl (omega arith),
-            more (4 * i + 3) (4 * (i + 1)) 3 (omega arith) refl (omega arith),
-          );
-          count = omega arith;
-          same = rw ez (simp length-set (p .same));
-        }
-      where
-        more : (j j' k : ℕ) → k < 4 → j ≡ 4 * i + k → j' ≡ j + 1 → set (written f old j) j (f i k) ≡ written f old j'
-        more j j' k b a a' =
-            let x : j / 4 ≡ i = omega arith in
-            let y : j % 4 ≡ k = omega arith in
-            rw (← x, ← y, a') (build-more (λ n. f (n / 4) (n % 4)) old j (omega (arith, p .same)))
+    turn q l room ez eq = record { run = pixel-more f i (4 * i) q (p .run) (omega arith) room ez eq; count = omega arith }
 
     -- all are written
     pub ends : (w h : ℕ) (F : ℕ → Plane) → i ≡ w * h → length old ≡ bytesOf w h → ((i c : ℕ) → i < w * h → f i c ≡ F c (i % w) (i / w)) → new ≡ painted w h F
     unfolding painted
     ends w h F a e same =
-        rw (p .so, a, ← e, drop-length old, append-nil, e)
-        (build-ext (bytesOf w h) _ _ (length-build (bytesOf w h) _) (λ j l. getD-build (bytesOf w h) _ j l ∙ same (j / 4) (j % 4) (omega arith)))
+        build-ext (bytesOf w h) _ new (p .run .size ∙ e) (λ j l. span-at (p .run) j (omega arith) (omega arith) (omega arith) ∙ same (j / 4) (j % 4) (omega arith))

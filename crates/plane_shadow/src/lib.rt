@@ -1,21 +1,21 @@
 // The shadow on four planes, with the refusals of that on a picture: alpha's plane alone is shifted and blurred.
 use composite::Colour;
 use composite::Tint;
+use drop_shadow::Casting;
 use drop_shadow::Recipe;
-use picture::EdgeMode;
 use picture::FullSize;
 use picture::Pixel;
 ghost use mathlib.Core.Path.{_≡_};
 ghost use mathlib.Core.Bool.{true, false};
 ghost use Prim.Native.Nat.{_*_, _<_};
 ghost use lib.ListN.{length};
-ghost use Rattle.picture.specs.Planes.{bytesOf, cleared};
+ghost use Rattle.picture.specs.Planes.{cleared};
 ghost use Rattle.picture.specs.Sizes.{fullBytes};
 ghost use Rattle.picture.specs.Answer.{answered, lentCopy};
 ghost use Rattle.planes.specs.Planar.{planeOf, paintedPlanes, onPlanes};
 ghost use Rattle.composite.specs.Shadow.{InUnit};
 ghost use Rattle.composite.specs.Plane.{planeIn, tintOn, shadowOn};
-ghost use Rattle.drop_shadow.specs.Shadowed.{shadowed};
+ghost use Rattle.drop_shadow.specs.Cast.{shadowedBy};
 ghost use Rattle.drop_shadow.specs.Needs.{ShadowReady, ShadowAccepted};
 ghost use Rattle.plane_shadow.specs.Places.{pixelIn, withPixelIn, Alphas};
 ghost use Rattle.plane_shadow.specs.Outcome.{shadowPlanesOutcome};
@@ -97,52 +97,43 @@ fn write_plane_shadow(
 // Copies alpha's plane, casts it as a shadow, colours it, and lays the planes over it.
 fn apply_shadow_planes(
     planes: &mut [u8],
-    size: FullSize,
     scratch: &mut [u8],
     plane: &mut [u8],
     weights: &[f32],
-    n: u32,
-    mode: EdgeMode,
-    recipe: Recipe,
-    composite: bool,
+    cast: Casting,
 )
-    requires { ⌜ ShadowReady size (now scratch) (now plane) (now weights) recipe ⌝ ∗ ⌜ length (now planes) ≡ fullBytes size ⌝ }
-    ensures { λ _. ⌜ now (planes .exit) ≡ onPlanes (size .w) (size .h) (shadowed mode (now (weights .entry)) n recipe composite (size .w) (size .h)) (now (planes .entry)) ⌝ }
+    requires { ⌜ ShadowReady (cast .size) (now scratch) (now plane) (now weights) (cast .recipe) ⌝ ∗ ⌜ length (now planes) ≡ fullBytes (cast .size) ⌝ }
+    ensures { λ _. ⌜ now (planes .exit) ≡ onPlanes (cast .size .w) (cast .size .h) (shadowedBy cast (now (weights .entry))) (now (planes .entry)) ⌝ }
 {
     let area = plane.len();
     pixels::copy_bytes(plane, &planes[3 * area..4 * area]);
-    drop_shadow::cast_plane(plane, size, scratch, weights, n, mode, recipe);
+    drop_shadow::cast_plane(plane, scratch, weights, cast);
+    let size = cast.size;
+    let recipe = cast.recipe;
     let colour = drop_shadow::colour_of(recipe);
-    write_plane_shadow(plane, planes, size, colour, composite);
+    write_plane_shadow(plane, planes, size, colour, cast.composite);
 }
 
 // An accepted call: the planes with their shadow, and the work buffers zero where they were used.
 fn shadow_planes_accepted(
     planes: &mut [u8],
-    size: FullSize,
     scratch: &mut [u8],
     copy: &mut [u8],
     weights: &[f32],
-    n: u32,
-    mode: EdgeMode,
-    recipe: Recipe,
-    composite: bool,
+    cast: Casting,
 )
-    requires { ⌜ ShadowAccepted size (now planes) (now scratch) (now copy) (now weights) recipe ⌝ }
-    ensures { λ _. ⌜ lentCopy (now (planes .exit)) (now (scratch .exit)) (now (copy .exit)) ≡ lentCopy (onPlanes (size .w) (size .h) (shadowed mode (now (weights .entry)) n recipe composite (size .w) (size .h)) (now (planes .entry))) (cleared (bytesOf (size .w) (size .h)) (now (scratch .entry))) (cleared (bytesOf (size .w) (size .h)) (now (copy .entry))) ⌝ }
+    requires { ⌜ ShadowAccepted (cast .size) (now planes) (now scratch) (now copy) (now weights) (cast .recipe) ⌝ }
+    ensures { λ _. ⌜ lentCopy (now (planes .exit)) (now (scratch .exit)) (now (copy .exit)) ≡ lentCopy (onPlanes (cast .size .w) (cast .size .h) (shadowedBy cast (now (weights .entry))) (now (planes .entry))) (cleared (fullBytes (cast .size)) (now (scratch .entry))) (cleared (fullBytes (cast .size)) (now (copy .entry))) ⌝ }
 {
+    let size = cast.size;
     let k = size.bytes();
     let area = k / 4;
     apply_shadow_planes(
         planes,
-        size,
         &mut scratch[..area],
         &mut copy[..area],
         weights,
-        n,
-        mode,
-        recipe,
-        composite,
+        cast,
     );
     picture::clear(scratch, k);
     picture::clear(copy, k);
@@ -177,18 +168,7 @@ pub fn shadow_planes(
     if r != 0 {
         return r;
     }
-    let size = picture::full_size(w, h);
-    let mode = picture::edge_mode(edge);
-    shadow_planes_accepted(
-        planes,
-        size,
-        scratch,
-        copy,
-        weights,
-        n,
-        mode,
-        recipe,
-        composite,
-    );
+    let cast = drop_shadow::casting_of(w, h, n, edge, recipe, composite);
+    shadow_planes_accepted(planes, scratch, copy, weights, cast);
     0
 }

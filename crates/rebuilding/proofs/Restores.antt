@@ -55,7 +55,7 @@ module _ (w h : ℕ) (p : List ℕ) (fit : Bytes p) where
   all-back zero l = begins
   all-back (suc i) l =
       let t = all-back i (omega arith) in
-      subst Back (add-one i) (turn t (pixelAt p i) (omega arith) (omega (arith, t .same, length-mended w h p)) (one-back i (omega arith) t) refl)
+      subst Back (add-one i) (turn t (pixelAt p i) (omega arith) (omega (arith, t .run .size, length-mended w h p)) (one-back i (omega arith) t) refl)
 
   -- from the list and the mended picture, the old one
   pub old-back : length p ≡ bytesOf w h → back (w * h) ≡ p

@@ -2,6 +2,7 @@
 use face_areas::areas;
 use vector_buffers::bounds;
 use vector_buffers::buffers;
+use vector_buffers::left;
 use vector_parts::parts;
 use vector_parts::replies;
 use vector_parts::replies::Reply;
@@ -50,11 +51,8 @@ fn call(v: &[u64], picture: &[u8], table: &mut [u32]) -> Reply {
 }
 
 // Whether the reply, the picture and the table are as the vector says.
-fn left(v: &[u64], r: Reply, picture: &[u8; LONGEST], table: &[u32; LONGEST]) -> bool {
-    if !replies::stored(v, r) {
-        return false;
-    }
-    if !buffers::bytes_left(v, parts::bytes(v), picture) {
+fn all_left(v: &[u64], r: Reply, picture: &[u8; LONGEST], table: &[u32; LONGEST]) -> bool {
+    if !left::bytes(v, r, picture) {
         return false;
     }
     words::words_left(v, parts::list(v), table)
@@ -104,5 +102,5 @@ pub fn agrees(v: &[u64]) -> bool {
     let n = bytes.count;
     let m = numbers.count;
     let r = call(v, &picture[0..n], &mut table[0..m]);
-    left(v, r, &picture, &table)
+    all_left(v, r, &picture, &table)
 }

@@ -3,6 +3,7 @@
 use face_files::images;
 use face_files::plates;
 use vector_buffers::buffers;
+use vector_buffers::left;
 use vector_parts::parts;
 use vector_parts::replies;
 use vector_parts::replies::Reply;
@@ -71,11 +72,8 @@ fn call(v: &[u64], bytes: &mut [u8], other: &mut [u8]) -> Reply {
 }
 
 // Whether the reply and both buffers are as the vector says.
-fn left(v: &[u64], r: Reply, bytes: &[u8; LONGEST], other: &[u8; LONGEST]) -> bool {
-    if !replies::stored(v, r) {
-        return false;
-    }
-    if !buffers::bytes_left(v, parts::bytes(v), bytes) {
+fn all_left(v: &[u64], r: Reply, bytes: &[u8; LONGEST], other: &[u8; LONGEST]) -> bool {
+    if !left::bytes(v, r, bytes) {
         return false;
     }
     buffers::bytes_left(v, parts::other(v), other)
@@ -100,5 +98,5 @@ pub fn agrees(v: &[u64]) -> bool {
     let n = first.count;
     let m = second.count;
     let r = call(v, &mut bytes[0..n], &mut other[0..m]);
-    left(v, r, &bytes, &other)
+    all_left(v, r, &bytes, &other)
 }

@@ -2,11 +2,11 @@
 use face_files::plates;
 use face_filters::filters;
 use vector_buffers::buffers;
+use vector_buffers::left;
 use vector_parts::parts;
 use vector_parts::replies;
 use vector_parts::replies::Reply;
 use vector_values::head;
-use vector_values::values::LONGEST;
 
 fn blur(v: &[u64], picture: &mut [u8], scratch: &mut [u8], weights: &[f32]) -> Reply {
     let w = head::word(v, 1);
@@ -109,26 +109,6 @@ fn call(
     }
 }
 
-// Whether the reply and the lent buffers are as the vector says.
-fn left(
-    v: &[u64],
-    r: Reply,
-    picture: &[u8; LONGEST],
-    scratch: &[u8; LONGEST],
-    copy: &[u8; LONGEST],
-) -> bool {
-    if !replies::stored(v, r) {
-        return false;
-    }
-    if !buffers::bytes_left(v, parts::bytes(v), picture) {
-        return false;
-    }
-    if !buffers::work_left(head::number(v, 23), scratch) {
-        return false;
-    }
-    buffers::work_left(head::number(v, 24), copy)
-}
-
 // Whether the call does what the vector says.
 pub fn agrees(v: &[u64]) -> bool {
     if !replies::alone(v) {
@@ -151,5 +131,5 @@ pub fn agrees(v: &[u64]) -> bool {
         &mut copy[0..second],
         &weights[0..taps],
     );
-    left(v, r, &picture, &scratch, &copy)
+    left::work(v, r, &picture, &scratch, &copy)
 }

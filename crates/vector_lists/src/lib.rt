@@ -2,6 +2,7 @@
 use face_grades::mends;
 use vector_buffers::bounds;
 use vector_buffers::buffers;
+use vector_buffers::left;
 use vector_pairs::lists;
 use vector_pairs::lists::MOST_PAIRS;
 use vector_parts::parts;
@@ -33,11 +34,8 @@ fn call(v: &[u64], picture: &mut [u8], list: &mut [[u32; 2]]) -> Reply {
 }
 
 // Whether the reply, the picture and the list are as the vector says.
-fn left(v: &[u64], r: Reply, picture: &[u8; LONGEST], list: &[[u32; 2]; MOST_PAIRS]) -> bool {
-    if !replies::stored(v, r) {
-        return false;
-    }
-    if !buffers::bytes_left(v, parts::bytes(v), picture) {
+fn all_left(v: &[u64], r: Reply, picture: &[u8; LONGEST], list: &[[u32; 2]; MOST_PAIRS]) -> bool {
+    if !left::bytes(v, r, picture) {
         return false;
     }
     lists::pairs_left(v, parts::list(v), list)
@@ -71,5 +69,5 @@ pub fn agrees(v: &[u64]) -> bool {
     let n = bytes.count;
     let m = changes.count / 2;
     let r = call(v, &mut picture[0..n], &mut list[0..m]);
-    left(v, r, &picture, &list)
+    all_left(v, r, &picture, &list)
 }

@@ -3,13 +3,13 @@ use face_files::plates;
 use face_filters::filters;
 use face_grades::grades;
 use vector_buffers::buffers;
+use vector_buffers::left;
 use vector_parts::parts;
 use vector_parts::replies;
 use vector_parts::replies::Reply;
 use vector_parts::replies::UNSET;
 use vector_values::head;
 use vector_values::values;
-use vector_values::values::LONGEST;
 
 // What a sheet that is an out-parameter holds before a call.
 const UNSET_SHEET: u16 = 48879;
@@ -106,14 +106,6 @@ fn call(v: &[u64], picture: &mut [u8]) -> Reply {
     }
 }
 
-// Whether the reply and the buffer are as the vector says.
-fn left(v: &[u64], r: Reply, picture: &[u8; LONGEST]) -> bool {
-    if !replies::stored(v, r) {
-        return false;
-    }
-    buffers::bytes_left(v, parts::bytes(v), picture)
-}
-
 // Whether the call does what the vector says.
 pub fn agrees(v: &[u64]) -> bool {
     if !replies::alone(v) {
@@ -126,5 +118,5 @@ pub fn agrees(v: &[u64]) -> bool {
     let n = bytes.count;
     let mut picture = buffers::bytes(v, bytes);
     let r = call(v, &mut picture[0..n]);
-    left(v, r, &picture)
+    left::bytes(v, r, &picture)
 }

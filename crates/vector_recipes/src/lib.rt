@@ -2,12 +2,12 @@
 use recipe_checks::Step;
 use vector_buffers::bounds;
 use vector_buffers::buffers;
+use vector_buffers::left;
 use vector_parts::parts;
 use vector_parts::replies;
 use vector_parts::replies::Reply;
 use vector_parts::replies::UNSET;
 use vector_values::head;
-use vector_values::values::LONGEST;
 ghost use mathlib.Core.Path.{_≡_};
 ghost use Prim.Native.Nat.{_≤_};
 ghost use Rattle.picture.specs.Answer.{answered, lentCopy};
@@ -78,26 +78,6 @@ fn call(
     replies::two(number, index, 0)
 }
 
-// Whether the reply and the lent buffers are as the vector says.
-fn left(
-    v: &[u64],
-    r: Reply,
-    picture: &[u8; LONGEST],
-    scratch: &[u8; LONGEST],
-    copy: &[u8; LONGEST],
-) -> bool {
-    if !replies::stored(v, r) {
-        return false;
-    }
-    if !buffers::bytes_left(v, parts::bytes(v), picture) {
-        return false;
-    }
-    if !buffers::work_left(head::number(v, 23), scratch) {
-        return false;
-    }
-    buffers::work_left(head::number(v, 24), copy)
-}
-
 // Whether a vector's list is eight recipes of words, which stay, and no other buffer is lent.
 fn listed(v: &[u64]) -> bool {
     let other = parts::other(v);
@@ -139,5 +119,5 @@ pub fn agrees(v: &[u64]) -> bool {
         &mut copy[0..second],
         &table[0..m],
     );
-    left(v, r, &picture, &scratch, &copy)
+    left::work(v, r, &picture, &scratch, &copy)
 }

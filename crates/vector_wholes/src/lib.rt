@@ -1,6 +1,7 @@
 // The function that is lent numerators and a work buffer.
 use face_filters::wholes;
 use vector_buffers::buffers;
+use vector_buffers::left;
 use vector_parts::parts;
 use vector_parts::replies;
 use vector_parts::replies::Reply;
@@ -17,11 +18,8 @@ fn call(v: &[u64], picture: &mut [u8], scratch: &mut [u8], numerators: &[u32]) -
 }
 
 // Whether the reply and the lent buffers are as the vector says, which clears no second work buffer.
-fn left(v: &[u64], r: Reply, picture: &[u8; LONGEST], scratch: &[u8; LONGEST]) -> bool {
-    if !replies::stored(v, r) {
-        return false;
-    }
-    if !buffers::bytes_left(v, parts::bytes(v), picture) {
+fn all_left(v: &[u64], r: Reply, picture: &[u8; LONGEST], scratch: &[u8; LONGEST]) -> bool {
+    if !left::bytes(v, r, picture) {
         return false;
     }
     if head::number(v, 24) != 0 {
@@ -49,5 +47,5 @@ pub fn agrees(v: &[u64]) -> bool {
         &mut scratch[0..room],
         &numerators[0..taps],
     );
-    left(v, r, &picture, &scratch)
+    all_left(v, r, &picture, &scratch)
 }

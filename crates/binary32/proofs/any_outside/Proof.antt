@@ -42,17 +42,4 @@ returns-2 c =
     sym (at .loop .inv .1 ∙ rw (drop-of-length-le (at .before .before .args .xs .now) {i = at .loop .i} (omega arith)))
 
 pub any-outside-spec : {M : Type 1} → statement M
-any-outside-spec =
-    tie.close
-    (tie.spec
-    Inv-loop
-    μ-loop
-    loop-holds
-    (λ c. omega arith)
-    (λ c. omega arith)
-    (λ c κs. search needs)
-    returns
-    (λ c. omega arith)
-    (λ c. omega arith)
-    loop-again
-    returns-2)
+any-outside-spec = tie.close (tie.spec Inv-loop μ-loop loop-holds (λ c. omega arith) (λ c. omega arith) (λ c κs. search needs) returns (λ c. omega arith) (λ c. omega arith) loop-again returns-2)

@@ -55,13 +55,4 @@ returns-3 c =
     rw (found w .0) (part-all (s .args .x) (fit s) (in-range (w .before)) (rw (← found w .0) (c .if2 .left)))
 
 pub numerator-of-spec : {M : Type 1} → statement M
-numerator-of-spec =
-    tie.close
-    (tie.spec
-    (λ c κs. search needs)
-    returns
-    truncating-f32-to-u64-requires
-    int-to-float-if2
-    returns-2
-    cast-t7
-    returns-3)
+numerator-of-spec = tie.close (tie.spec (λ c κs. search needs) returns truncating-f32-to-u64-requires int-to-float-if2 returns-2 cast-t7 returns-3)

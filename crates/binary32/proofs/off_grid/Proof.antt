@@ -56,21 +56,4 @@ returns-3 c =
     sym (at .loop .inv .2 ∙ off-end (at .loop .sum) (at .before .before .args .xs .now) (at .loop .i) (omega arith))
 
 pub off-grid-spec : {M : Type 1} → statement M
-off-grid-spec =
-    tie.close
-    (tie.spec
-    Inv-loop
-    μ-loop
-    loop-holds
-    (λ c. omega arith)
-    (λ c. omega arith)
-    (λ c κs. search needs)
-    (λ c. search needs)
-    (λ c. search needs)
-    returns
-    add-sum
-    returns-2
-    (λ c. omega arith)
-    (λ c. omega arith)
-    loop-again
-    returns-3)
+off-grid-spec = tie.close (tie.spec Inv-loop μ-loop loop-holds (λ c. omega arith) (λ c. omega arith) (λ c κs. search needs) (λ c. search needs) (λ c. search needs) returns add-sum returns-2 (λ c. omega arith) (λ c. omega arith) loop-again returns-3)

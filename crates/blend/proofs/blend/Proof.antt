@@ -48,16 +48,4 @@ returns : tie.Need-returns
 returns c = search needs
 
 pub blend-spec : {M : Type 1} → statement M
-blend-spec =
-    tie.close
-    (tie.spec
-    mul-result
-    mul-result-2
-    add-result
-    mul-result-3
-    add-result-2
-    mul-result-4
-    add-result-3
-    add-result-4
-    cast-result
-    returns)
+blend-spec = tie.close (tie.spec mul-result mul-result-2 add-result mul-result-3 add-result-2 mul-result-4 add-result-3 add-result-4 cast-result returns)

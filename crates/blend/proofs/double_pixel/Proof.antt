@@ -53,22 +53,4 @@ returns-2 c =
     ∙ even-inside mode (a .len) x (lane src (a .start) 4 k) (st .pre .0)))))
 
 pub double-pixel-spec : {M : Type 1} → statement M
-double-pixel-spec =
-    tie.close
-    (tie.spec
-    (λ c. omega (arith, room-is))
-    (λ c. omega arith)
-    (λ c. omega arith)
-    (λ c. omega arith)
-    (λ c. absurd (omega arith))
-    (λ c κs. omega arith)
-    (λ c. omega arith)
-    (λ c κs. omega arith)
-    (λ c. omega arith)
-    (λ c κs. tt)
-    (λ c κs. omega arith)
-    (λ c. omega arith)
-    (λ c κs. tt)
-    write-pixel-requires-2
-    same-length
-    returns-2)
+double-pixel-spec = tie.close (tie.spec (λ c. omega (arith, room-is)) (λ c. omega arith) (λ c. omega arith) (λ c. omega arith) (λ c. absurd (omega arith)) (λ c κs. omega arith) (λ c. omega arith) (λ c κs. omega arith) (λ c. omega arith) (λ c κs. tt) (λ c κs. omega arith) (λ c. omega arith) (λ c κs. tt) write-pixel-requires-2 same-length returns-2)

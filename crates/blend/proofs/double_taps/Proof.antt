@@ -44,12 +44,4 @@ returns c =
     }
 
 pub double-taps-spec : {M : Type 1} → statement M
-double-taps-spec =
-    tie.close
-    (tie.spec
-    (λ c. omega arith)
-    (λ c. omega arith)
-    (λ c κs. omega (arith, room-is))
-    (λ c κs. omega (arith, room-is))
-    taps-of-requires
-    returns)
+double-taps-spec = tie.close (tie.spec (λ c. omega arith) (λ c. omega arith) (λ c κs. omega (arith, room-is)) (λ c κs. omega (arith, room-is)) taps-of-requires returns)

@@ -53,16 +53,4 @@ returns c =
     ∙ halved-inside mode (a .len) (a .x) (lane src (a .start) (a .stride) k) (st .pre .0) (st .pre .1)))
 
 pub halve-lanes-spec : {M : Type 1} → statement M
-halve-lanes-spec =
-    tie.close
-    (tie.spec
-    (λ c. omega arith)
-    (λ c. omega arith)
-    (λ c. omega arith)
-    (λ c. omega arith)
-    taps-of-requires
-    (λ c. omega (arith, room (c .before .before .before .before)))
-    (λ c. omega (arith, room (c .before .before .before .before)))
-    blend-lanes-requires
-    same-length
-    returns)
+halve-lanes-spec = tie.close (tie.spec (λ c. omega arith) (λ c. omega arith) (λ c. omega arith) (λ c. omega arith) taps-of-requires (λ c. omega (arith, room (c .before .before .before .before))) (λ c. omega (arith, room (c .before .before .before .before))) blend-lanes-requires same-length returns)

@@ -34,18 +34,4 @@ returns c =
     ∙ halved-inside mode (a .len) (a .x) (lane (now (a .src)) (a .start) 4 k) (st .pre .0) (st .pre .1)))
 
 pub halve-pixel-spec : {M : Type 1} → statement M
-halve-pixel-spec =
-    tie.close
-    (tie.spec
-    (λ c. omega arith)
-    (λ c. omega arith)
-    (λ c κs. omega arith)
-    (λ c κs. omega arith)
-    (λ c. omega arith)
-    (λ c κs. omega arith)
-    (λ c. omega arith)
-    (λ c κs. omega arith)
-    (λ c κs. tt)
-    (λ c κs. omega arith)
-    same-length
-    returns)
+halve-pixel-spec = tie.close (tie.spec (λ c. omega arith) (λ c. omega arith) (λ c κs. omega arith) (λ c κs. omega arith) (λ c. omega arith) (λ c κs. omega arith) (λ c. omega arith) (λ c κs. omega arith) (λ c κs. tt) (λ c κs. omega arith) same-length returns)

@@ -47,15 +47,4 @@ returns c =
     }
 
 pub halve-taps-spec : {M : Type 1} → statement M
-halve-taps-spec =
-    tie.close
-    (tie.spec
-    (λ c. omega (arith, room-is))
-    (λ c κs. omega (arith, room-is))
-    (λ c κs. omega (arith, room-is))
-    (λ c. omega (arith, room-is))
-    (λ c κs. omega (arith, room-is))
-    (λ c. omega (arith, room-is))
-    (λ c κs. omega (arith, room-is))
-    taps-of-requires
-    returns)
+halve-taps-spec = tie.close (tie.spec (λ c. omega (arith, room-is)) (λ c κs. omega (arith, room-is)) (λ c κs. omega (arith, room-is)) (λ c. omega (arith, room-is)) (λ c κs. omega (arith, room-is)) (λ c. omega (arith, room-is)) (λ c κs. omega (arith, room-is)) taps-of-requires returns)

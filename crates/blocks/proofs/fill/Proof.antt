@@ -57,17 +57,4 @@ returns : tie.Need-returns Inv-loop μ-loop
 returns c = let e : c .before .loop .e ≡ c .before .before .before .before .args .last = omega arith in rw e at (c .before .loop .inv .3)
 
 pub fill-spec : {M : Type 1} → statement M
-fill-spec =
-    tie.close
-    (tie.spec
-    Inv-loop
-    μ-loop
-    loop-holds
-    (λ c. omega (arith, room (c .before)))
-    (λ c. omega arith)
-    fill-element-requires
-    (λ c. omega arith)
-    (λ c. omega arith)
-    loop-again
-    (λ c. c .before .loop .inv .2)
-    returns)
+fill-spec = tie.close (tie.spec Inv-loop μ-loop loop-holds (λ c. omega (arith, room (c .before))) (λ c. omega arith) fill-element-requires (λ c. omega arith) (λ c. omega arith) loop-again (λ c. c .before .loop .inv .2) returns)

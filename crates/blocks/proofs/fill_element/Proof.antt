@@ -54,18 +54,4 @@ returns-2 c =
     ∙ ap widened (placed (a .mode) (a .len) (a .c) (a .d) (lane (now (a .src)) (a .start) (a .stride) (a .from + _)) (sym (s .before .before .extend .ensures) ∙ s .enum-told .given .1)))
 
 pub fill-element-spec : {M : Type 1} → statement M
-fill-element-spec =
-    tie.close
-    (tie.spec
-    (λ c κs. search needs)
-    (λ c. search needs)
-    (λ c. omega (arith, ends c))
-    (λ c. omega (arith, ends c))
-    (λ c. omega (arith, ends c))
-    (λ c κs. omega (arith, ends c))
-    (λ c. search needs)
-    (λ c κs. search needs)
-    (λ c. search needs)
-    returns
-    (λ c. search needs)
-    returns-2)
+fill-element-spec = tie.close (tie.spec (λ c κs. search needs) (λ c. search needs) (λ c. omega (arith, ends c)) (λ c. omega (arith, ends c)) (λ c. omega (arith, ends c)) (λ c κs. omega (arith, ends c)) (λ c. search needs) (λ c κs. search needs) (λ c. search needs) returns (λ c. search needs) returns-2)

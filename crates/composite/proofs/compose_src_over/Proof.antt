@@ -8,11 +8,4 @@ returns c =
     rw (c .before .before .before .src-over-channel .ensures, c .before .before .src-over-channel2 .ensures, c .before .src-over-channel3 .ensures, c .src-over-channel4 .ensures)
 
 pub compose-src-over-spec : {M : Type 1} → statement M
-compose-src-over-spec =
-    tie.close
-    (tie.spec
-    (λ c κs. search needs)
-    (λ c κs. search needs)
-    (λ c κs. search needs)
-    (λ c κs. search needs)
-    returns)
+compose-src-over-spec = tie.close (tie.spec (λ c κs. search needs) (λ c κs. search needs) (λ c κs. search needs) (λ c κs. search needs) returns)

@@ -41,20 +41,4 @@ returns c =
     (λ i k l. sym (rw (chan-here p w k i, plane-here (s .args .alphas .now) w i, chan-here p w 3 i)))
 
 pub lay-pixels-spec : {M : Type 1} → statement M
-lay-pixels-spec =
-    tie.close
-    (tie.spec
-    Inv-loop
-    μ-loop
-    (λ c κs. search needs)
-    (λ c. begins)
-    (λ c κs. search needs)
-    (λ c. search needs)
-    (λ c κs. search needs)
-    (λ c κs. search needs)
-    (λ c κs. search needs)
-    (λ c. search needs)
-    (λ c. search needs)
-    loop-again
-    (λ c. search needs)
-    returns)
+lay-pixels-spec = tie.close (tie.spec Inv-loop μ-loop (λ c κs. search needs) (λ c. begins) (λ c κs. search needs) (λ c. search needs) (λ c κs. search needs) (λ c κs. search needs) (λ c κs. search needs) (λ c. search needs) (λ c. search needs) loop-again (λ c. search needs) returns)

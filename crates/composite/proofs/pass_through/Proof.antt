@@ -5,12 +5,12 @@ use native.Mathlib.Omega.{arith}
 use borrow.Author.Needs.{needs}
 use lib.ListN.{length, getD}
 use Rattle.composite.specs.Plane.{through}
-use Rattle.composite.proofs.Writing.{Writing, none, still, more, whole}
+use Rattle.picture.proofs.Filled.{Filling, fills-none, fills-still, fills-more, fills-build}
 use Rattle.composite.proofs.pass_through.Statement.{statement}
 use Rattle.composite.proofs.pass_through.Tie as tie
 
 abbrev Inv-loop : tie.InvT-loop
-Inv-loop plane₀ table i₀ plane i = Writing (λ k. getD table (getD plane₀ k 0) 0) plane₀ plane i
+Inv-loop plane₀ table i₀ plane i = Filling 0 (λ k. getD table (getD plane₀ k 0) 0) plane₀ plane i
 
 abbrev μ-loop : tie.MeasureT-loop
 μ-loop plane₀ table i₀ plane i = length plane₀ - i
@@ -25,25 +25,11 @@ loop-again : tie.Need-loop-again Inv-loop μ-loop
 loop-again c =
     let l = c .before .before .before in
     let s = l .before .args in
-    more (l .loop .inv) _ (omega arith) (ap (λ (k : ℕ). getD (s .table .now) k 0) (still (l .loop .inv) (omega arith)))
+    fills-more (l .loop .inv) (omega arith) (ap (λ (k : ℕ). getD (s .table .now) k 0) (fills-still (l .loop .inv)))
 
 returns : tie.Need-returns Inv-loop μ-loop
 unfolding through
-returns c = whole (c .before .loop .inv) (omega arith)
+returns c = fills-build (c .before .loop .inv) (omega arith)
 
 pub pass-through-spec : {M : Type 1} → statement M
-pass-through-spec =
-    tie.close
-    (tie.spec
-    Inv-loop
-    μ-loop
-    (λ c. none)
-    (λ c. search needs)
-    cast-plane
-    shared-slice-read-plane
-    (λ c. search needs)
-    (λ c. search needs)
-    (λ c. search needs)
-    loop-again
-    (λ c. omega arith)
-    returns)
+pass-through-spec = tie.close (tie.spec Inv-loop μ-loop (λ c. fills-none) (λ c. search needs) cast-plane shared-slice-read-plane (λ c. search needs) (λ c. search needs) (λ c. search needs) loop-again (λ c. omega arith) returns)

@@ -14,12 +14,4 @@ returns c =
     look .pass-through .ensures ∙ through-alphas (s .colour) (s .plane .now) _ (λ j. known .slice-known .given j .fits) (made .alpha-table .ensures)
 
 pub shadow-alphas-spec : {M : Type 1} → statement M
-shadow-alphas-spec =
-    tie.close
-    (tie.spec
-    (λ c. search needs)
-    (λ c κs. search needs)
-    (λ c. search needs)
-    (λ c κs. search needs)
-    (λ c. search needs)
-    returns)
+shadow-alphas-spec = tie.close (tie.spec (λ c. search needs) (λ c κs. search needs) (λ c. search needs) (λ c κs. search needs) (λ c. search needs) returns)

@@ -37,16 +37,4 @@ returns-2 : tie.Need-returns-2
 returns-2 c = let k = known (c .before) in omega arith
 
 pub src-over-channel-spec : {M : Type 1} → statement M
-src-over-channel-spec =
-    tie.close
-    (tie.spec
-    (λ c κs. search needs)
-    (λ c κs. search needs)
-    (λ c κs. search needs)
-    (λ c. search needs)
-    mul-sum
-    add-sum
-    add-sum-2
-    (λ c. search needs)
-    returns
-    returns-2)
+src-over-channel-spec = tie.close (tie.spec (λ c κs. search needs) (λ c κs. search needs) (λ c κs. search needs) (λ c. search needs) mul-sum add-sum add-sum-2 (λ c. search needs) returns returns-2)

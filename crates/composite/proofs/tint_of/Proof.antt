@@ -16,10 +16,4 @@ returns : tie.Need-returns
 returns c = rw (c .before .before .norm-to-u8 .ensures, c .before .norm-to-u82 .ensures, c .norm-to-u83 .ensures)
 
 pub tint-of-spec : {M : Type 1} → statement M
-tint-of-spec =
-    tie.close
-    (tie.spec
-    norm-to-u8-requires
-    norm-to-u8-requires-2
-    norm-to-u8-requires-3
-    returns)
+tint-of-spec = tie.close (tie.spec norm-to-u8-requires norm-to-u8-requires-2 norm-to-u8-requires-3 returns)

@@ -35,18 +35,4 @@ returns c =
     (λ i k l. sym (rw (plane-here (s .args .alphas .now) (s .args .size .w) i)))
 
 pub tint-pixels-spec : {M : Type 1} → statement M
-tint-pixels-spec =
-    tie.close
-    (tie.spec
-    Inv-loop
-    μ-loop
-    (λ c κs. search needs)
-    (λ c. begins)
-    (λ c. search needs)
-    (λ c κs. search needs)
-    (λ c κs. search needs)
-    (λ c. search needs)
-    (λ c. search needs)
-    loop-again
-    (λ c. search needs)
-    returns)
+tint-pixels-spec = tie.close (tie.spec Inv-loop μ-loop (λ c κs. search needs) (λ c. begins) (λ c. search needs) (λ c κs. search needs) (λ c κs. search needs) (λ c. search needs) (λ c. search needs) loop-again (λ c. search needs) returns)

@@ -9,10 +9,4 @@ unfolding tintedBy
 returns c = rw (c .before .before .premultiply .ensures, c .before .premultiply2 .ensures, c .premultiply3 .ensures)
 
 pub tinted-pixel-spec : {M : Type 1} → statement M
-tinted-pixel-spec =
-    tie.close
-    (tie.spec
-    (λ c κs. search needs)
-    (λ c κs. search needs)
-    (λ c κs. search needs)
-    returns)
+tinted-pixel-spec = tie.close (tie.spec (λ c κs. search needs) (λ c κs. search needs) (λ c κs. search needs) returns)

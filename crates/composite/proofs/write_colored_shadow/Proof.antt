@@ -28,16 +28,4 @@ returns-2 c =
     shadow-written (a .size .w) (a .size .h) (painted (a .size .w) (a .size .h)) (painted-same (a .size .w) (a .size .h)) (chan (a .picture .now) (a .size .w)) (a .colour) (a .plane .now) (s .pre .0) false (else .if1 .left) (made .tint-of .ensures) (alphas .shadow-alphas .ensures) (call .tint-pixels .ensures)
 
 pub write-colored-shadow-spec : {M : Type 1} → statement M
-write-colored-shadow-spec =
-    tie.close
-    (tie.spec
-    (λ c κs. search needs)
-    (λ c κs. search needs)
-    (λ c κs. search needs)
-    (λ c κs. search needs)
-    (λ c. search needs)
-    (λ c. search needs)
-    returns
-    (λ c. search needs)
-    (λ c. search needs)
-    returns-2)
+write-colored-shadow-spec = tie.close (tie.spec (λ c κs. search needs) (λ c κs. search needs) (λ c κs. search needs) (λ c κs. search needs) (λ c. search needs) (λ c. search needs) returns (λ c. search needs) (λ c. search needs) returns-2)

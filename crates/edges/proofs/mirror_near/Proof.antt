@@ -24,14 +24,4 @@ returns-2 c l =
     place-back (a .s) (a .c) (a .d) r 0 0 l (omega arith)
 
 pub mirror-near-spec : {M : Type 1} → statement M
-mirror-near-spec =
-    tie.close
-    (tie.spec
-    (λ c. search needs)
-    (λ c. search needs)
-    mul-wrapping-sub-usize
-    add-wrapping-sub-usize
-    (λ c. search needs)
-    (λ c κs. search needs)
-    returns
-    returns-2)
+mirror-near-spec = tie.close (tie.spec (λ c. search needs) (λ c. search needs) mul-wrapping-sub-usize add-wrapping-sub-usize (λ c. search needs) (λ c κs. search needs) returns returns-2)

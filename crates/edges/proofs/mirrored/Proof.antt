@@ -29,13 +29,4 @@ unfolding place
 returns-3 c = rw (c .before .modulo .ensures) at (c .reflected .ensures)
 
 pub mirrored-spec : {M : Type 1} → statement M
-mirrored-spec =
-    tie.close
-    (tie.spec
-    returns
-    (λ c κs. search needs)
-    returns-2
-    mul-modulo
-    (λ c κs. search needs)
-    reflected-requires
-    returns-3)
+mirrored-spec = tie.close (tie.spec returns (λ c κs. search needs) returns-2 mul-modulo (λ c κs. search needs) reflected-requires returns-3)

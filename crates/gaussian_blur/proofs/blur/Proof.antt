@@ -37,14 +37,4 @@ returns-2 c =
     rw (v .blur-accepted .ensures, v .before .before .before .before .full-size .ensures, v .before .before .before .edge-mode .ensures) (done _ _ _ zero)
 
 pub blur-spec : {M : Type 1} → statement M
-blur-spec =
-    tie.close
-    (tie.spec
-    (λ c κs. search needs)
-    returns
-    full-size-requires
-    (λ c κs. search needs)
-    blur-accepted-requires
-    (λ c. search needs)
-    (λ c. search needs)
-    returns-2)
+blur-spec = tie.close (tie.spec (λ c κs. search needs) returns full-size-requires (λ c κs. search needs) blur-accepted-requires (λ c. search needs) (λ c. search needs) returns-2)

@@ -43,14 +43,4 @@ returns c =
     lent-cleared (s .args .scratch .now) (v .blur-or-keep .last .1 .0) (b .bytes .ensures) (s .pre .room) (v .blur-or-keep .kept .1 .0) (v .blur-or-keep .ensures) (c .before .before .clear .ensures)
 
 pub blur-accepted-spec : {M : Type 1} → statement M
-blur-accepted-spec =
-    tie.close
-    (tie.spec
-    bytes-requires
-    slice-relend-prefix-blur-or-keep
-    slice-aggregate-blur-or-keep
-    blur-or-keep-requires
-    clear-requires
-    (λ c. search needs)
-    (λ c. search needs)
-    returns)
+blur-accepted-spec = tie.close (tie.spec bytes-requires slice-relend-prefix-blur-or-keep slice-aggregate-blur-or-keep blur-or-keep-requires clear-requires (λ c. search needs) (λ c. search needs) returns)

@@ -26,19 +26,4 @@ loop-again c =
     (omega arith, span-more (l .loop .inv .1) (omega arith) (omega arith) refl (c .round-channel .ensures))
 
 pub round-lanes-spec : {M : Type 1} → statement M
-round-lanes-spec =
-    tie.close
-    (tie.spec
-    Inv-loop
-    μ-loop
-    (λ c. (omega arith, span-none (omega arith)))
-    (λ c. omega arith)
-    (λ c. omega arith)
-    round-channel-requires
-    (λ c. omega arith)
-    (λ c. omega arith)
-    (λ c. omega arith)
-    (λ c. omega arith)
-    loop-again
-    (λ c. c .before .loop .inv .1 .size)
-    (λ c. span-ends (c .before .loop .inv .1) refl (omega arith)))
+round-lanes-spec = tie.close (tie.spec Inv-loop μ-loop (λ c. (omega arith, span-none (omega arith))) (λ c. omega arith) (λ c. omega arith) round-channel-requires (λ c. omega arith) (λ c. omega arith) (λ c. omega arith) (λ c. omega arith) loop-again (λ c. c .before .loop .inv .1 .size) (λ c. span-ends (c .before .loop .inv .1) refl (omega arith)))

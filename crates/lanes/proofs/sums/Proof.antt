@@ -63,20 +63,4 @@ returns c =
     rw all at (l .loop .inv .2)
 
 pub sums-spec : {M : Type 1} → statement M
-sums-spec =
-    tie.close
-    (tie.spec
-    Inv-loop
-    μ-loop
-    (λ c κs. omega arith)
-    loop-holds
-    (λ c. omega (arith, reads (c .before), fits (c .before)))
-    (λ c. omega (arith, reads (c .before), fits (c .before)))
-    (λ c. omega arith)
-    (λ c. omega arith)
-    add-tap-requires
-    (λ c. omega arith)
-    (λ c. omega arith)
-    loop-again
-    (λ c. kept (c .before))
-    returns)
+sums-spec = tie.close (tie.spec Inv-loop μ-loop (λ c κs. omega arith) loop-holds (λ c. omega (arith, reads (c .before), fits (c .before))) (λ c. omega (arith, reads (c .before), fits (c .before))) (λ c. omega arith) (λ c. omega arith) add-tap-requires (λ c. omega arith) (λ c. omega arith) loop-again (λ c. kept (c .before)) returns)

@@ -19,12 +19,4 @@ returns c =
     span-ends (span-join (omega arith) (s .0 .from) (span-join (omega arith) (f .0 .from) (span-join (g .0 .from) (e .0 .from) (g .1) (e .1)) (f .1)) (s .1)) refl (omega (arith, s .0 .to, s .0 .left))
 
 pub weigh-spec : {M : Type 1} → statement M
-weigh-spec =
-    tie.close
-    (tie.spec
-    (λ c κs. search needs)
-    (λ c κs. search needs)
-    (λ c κs. search needs)
-    (λ c κs. search needs)
-    (λ c. search needs)
-    returns)
+weigh-spec = tie.close (tie.spec (λ c κs. search needs) (λ c κs. search needs) (λ c κs. search needs) (λ c κs. search needs) (λ c. search needs) returns)

@@ -39,17 +39,4 @@ returns-2 c =
     rw (as-many (now (t .before .before .before .before .before .args .weights)) (t .if2 .taken)) at (w .weigh-groups2 .ensures)
 
 pub weigh-large-spec : {M : Type 1} → statement M
-weigh-large-spec =
-    tie.close
-    (tie.spec
-    slice-aggregate-weigh-groups
-    weigh-groups-requires
-    (λ c. search needs)
-    returns
-    slice-aggregate-weigh-groups-2
-    weigh-groups-requires-2
-    (λ c. search needs)
-    returns-2
-    (λ c κs. search needs)
-    (λ c. search needs)
-    (λ c. search needs))
+weigh-large-spec = tie.close (tie.spec slice-aggregate-weigh-groups weigh-groups-requires (λ c. search needs) returns slice-aggregate-weigh-groups-2 weigh-groups-requires-2 (λ c. search needs) returns-2 (λ c κs. search needs) (λ c. search needs) (λ c. search needs))

@@ -23,20 +23,4 @@ loop-again c =
     (omega arith, span-more (l .loop .inv .1) (omega arith) (omega arith) refl refl)
 
 pub widen-spec : {M : Type 1} → statement M
-widen-spec =
-    tie.close
-    (tie.spec
-    Inv-loop
-    μ-loop
-    (λ c. (omega arith, span-none (omega arith)))
-    (λ c. omega arith)
-    (λ c. omega arith)
-    (λ c. search needs)
-    (λ c. omega arith)
-    (λ c. omega arith)
-    (λ c. omega arith)
-    (λ c. omega arith)
-    (λ c. omega arith)
-    loop-again
-    (λ c. c .before .loop .inv .1 .size)
-    (λ c. span-ends (c .before .loop .inv .1) refl (omega arith)))
+widen-spec = tie.close (tie.spec Inv-loop μ-loop (λ c. (omega arith, span-none (omega arith))) (λ c. omega arith) (λ c. omega arith) (λ c. search needs) (λ c. omega arith) (λ c. omega arith) (λ c. omega arith) (λ c. omega arith) (λ c. omega arith) loop-again (λ c. c .before .loop .inv .1 .size) (λ c. span-ends (c .before .loop .inv .1) refl (omega arith)))

@@ -26,15 +26,4 @@ returns-2 c =
     v .blur-form .ensures ∙ planes-worked (a .mode) (a .weights .now) (a .size .w) (a .size .h) (s .pre .pictured .sized) (a .planes .now) (a .n) (a .strength) (s .pre .pictured .exact)
 
 pub apply-blur-planes-spec : {M : Type 1} → statement M
-apply-blur-planes-spec =
-    tie.close
-    (tie.spec
-    (λ c κs. search needs)
-    (λ c κs. search needs)
-    blur-form-requires
-    (λ c. search needs)
-    (λ c. search needs)
-    returns
-    (λ c. search needs)
-    (λ c. search needs)
-    returns-2)
+apply-blur-planes-spec = tie.close (tie.spec (λ c κs. search needs) (λ c κs. search needs) blur-form-requires (λ c. search needs) (λ c. search needs) returns (λ c. search needs) (λ c. search needs) returns-2)

@@ -37,14 +37,4 @@ returns-2 c =
     rw (v .blur-planes-accepted .ensures, v .before .before .before .before .full-size .ensures, v .before .before .before .edge-mode .ensures) (done _ _ _ zero)
 
 pub blur-planes-spec : {M : Type 1} → statement M
-blur-planes-spec =
-    tie.close
-    (tie.spec
-    (λ c κs. search needs)
-    returns
-    full-size-requires
-    (λ c κs. search needs)
-    blur-planes-accepted-requires
-    (λ c. search needs)
-    (λ c. search needs)
-    returns-2)
+blur-planes-spec = tie.close (tie.spec (λ c κs. search needs) returns full-size-requires (λ c κs. search needs) blur-planes-accepted-requires (λ c. search needs) (λ c. search needs) returns-2)

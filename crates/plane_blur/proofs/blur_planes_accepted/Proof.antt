@@ -43,14 +43,4 @@ returns c =
     lent-cleared (s .args .scratch .now) (v .apply-blur-planes .last .1 .0) (b .bytes .ensures) (s .pre .room) (v .apply-blur-planes .kept .1 .0) (v .apply-blur-planes .ensures) (c .before .before .clear .ensures)
 
 pub blur-planes-accepted-spec : {M : Type 1} → statement M
-blur-planes-accepted-spec =
-    tie.close
-    (tie.spec
-    bytes-requires
-    slice-relend-prefix-apply-blur-planes
-    slice-aggregate-apply-blur-planes
-    apply-blur-planes-requires
-    clear-requires
-    (λ c. search needs)
-    (λ c. search needs)
-    returns)
+blur-planes-accepted-spec = tie.close (tie.spec bytes-requires slice-relend-prefix-apply-blur-planes slice-aggregate-apply-blur-planes apply-blur-planes-requires clear-requires (λ c. search needs) (λ c. search needs) returns)

@@ -17,7 +17,7 @@ cast-plane-requires c κs =
 write-plane-shadow-requires : tie.Need-write-plane-shadow-requires
 write-plane-shadow-requires c κs =
     let made = c .before .before in
-    let cast = made .before .before .before .before .before in
+    let cast = made .before .before .before .before .before .before .before in
     let copied = cast .before .before .before .before .before in
     let needs = copied .before .before .before .before .before .before .before .before .pre in
     rw (made .colour-of .ensures)
@@ -27,28 +27,14 @@ returns : tie.Need-returns
 returns c =
     let write = c .before .before .before .before in
     let made = write .before .before .before in
-    let cast = made .before .before .before .before .before in
+    let cast = made .before .before .before .before .before .before .before in
     let copied = cast .before .before .before .before .before in
     let s = copied .before .before .before .before .before .before .before .before in
     let a = s .args in
+    let t = a .cast in
     write .write-plane-shadow .ensures
     ∙ rw (made .colour-of .ensures, cast .cast-plane .ensures, copied .copy-bytes .ensures)
-    (planes-shadowed (a .mode) (a .weights .now) (a .n) (a .recipe) (a .size .w) (a .size .h) (s .pre .0 .sized .w-low) (s .pre .0 .sized .h-low) (a .composite) (a .planes .now) (length (a .plane .now)) (4 * length (a .plane .now) - 3 * length (a .plane .now)) (s .pre .0 .plane-is) (omega arith))
+    (planes-shadowed (t .mode) (a .weights .now) (t .n) (t .recipe) (t .size .w) (t .size .h) (s .pre .0 .sized .w-low) (s .pre .0 .sized .h-low) (t .composite) (a .planes .now) (length (a .plane .now)) (4 * length (a .plane .now) - 3 * length (a .plane .now)) (s .pre .0 .plane-is) (omega arith))
 
 pub apply-shadow-planes-spec : {M : Type 1} → statement M
-apply-shadow-planes-spec =
-    tie.close
-    (tie.spec
-    (λ c. search needs)
-    (λ c. search needs)
-    (λ c. search needs)
-    (λ c. search needs)
-    (λ c. search needs)
-    (λ c κs. search needs)
-    cast-plane-requires
-    (λ c κs. search needs)
-    write-plane-shadow-requires
-    (λ c. search needs)
-    (λ c. search needs)
-    (λ c. search needs)
-    returns)
+apply-shadow-planes-spec = tie.close (tie.spec (λ c. search needs) (λ c. search needs) (λ c. search needs) (λ c. search needs) (λ c. search needs) (λ c κs. search needs) cast-plane-requires (λ c κs. search needs) write-plane-shadow-requires (λ c. search needs) (λ c. search needs) (λ c. search needs) returns)

@@ -14,16 +14,4 @@ returns c =
     rw (ap (lineOf p) {x = 0 * a .n + a .i} {y = a .i} (omega arith), ap (lineOf p) {x = 1 * a .n + a .i} {y = a .n + a .i} (omega arith))
 
 pub pixel-in-spec : {M : Type 1} → statement M
-pixel-in-spec =
-    tie.close
-    (tie.spec
-    (λ c. search needs)
-    (λ c. search needs)
-    (λ c. search needs)
-    (λ c. search needs)
-    (λ c. search needs)
-    (λ c. search needs)
-    (λ c. search needs)
-    (λ c. search needs)
-    (λ c. search needs)
-    returns)
+pixel-in-spec = tie.close (tie.spec (λ c. search needs) (λ c. search needs) (λ c. search needs) (λ c. search needs) (λ c. search needs) (λ c. search needs) (λ c. search needs) (λ c. search needs) (λ c. search needs) returns)

@@ -25,33 +25,18 @@ fine c =
     let a = c .before .before .before .before .before .before .args in
     accepted (a .planes .now) (a .w) (a .h) (a .scratch .now) (a .copy .now) (a .weights .now) (a .n) (a .edge) (a .recipe) (sym (c .if1 .left) ∙ c .before .shadow-refusal .ensures)
 
-full-size-requires : tie.Need-full-size-requires
-full-size-requires c κs = fine c .0
-
 shadow-planes-accepted-requires : tie.Need-shadow-planes-accepted-requires
 shadow-planes-accepted-requires c κs =
-    let size = c .before .before .before .before in
-    rw (size .full-size .ensures) (fine (size .before) .1)
+    let made = c .before .before .before in
+    rw (made .casting-of .ensures) (fine (made .before) .1)
 
 returns-2 : tie.Need-returns-2
 unfolding shadowPlanesOutcome
 returns-2 c =
     let v = c .before .before .before .before .before .before in
-    let mode = v .before .before .before .before in
-    let e = mode .before .before in
-    let zero = sym (e .before .shadow-refusal .ensures) ∙ e .if1 .left in
-    rw (v .shadow-planes-accepted .ensures, mode .before .full-size .ensures, mode .edge-mode .ensures) (done _ _ _ zero)
+    let made = v .before .before .before .before in
+    let e = made .before in
+    rw (v .shadow-planes-accepted .ensures, made .casting-of .ensures) (done _ _ _ (sym (e .before .shadow-refusal .ensures) ∙ e .if1 .left))
 
 pub shadow-planes-spec : {M : Type 1} → statement M
-shadow-planes-spec =
-    tie.close
-    (tie.spec
-    (λ c κs. search needs)
-    returns
-    full-size-requires
-    (λ c κs. search needs)
-    shadow-planes-accepted-requires
-    (λ c. search needs)
-    (λ c. search needs)
-    (λ c. search needs)
-    returns-2)
+shadow-planes-spec = tie.close (tie.spec (λ c κs. search needs) returns (λ c κs. fine c .0) shadow-planes-accepted-requires (λ c. search needs) (λ c. search needs) (λ c. search needs) returns-2)

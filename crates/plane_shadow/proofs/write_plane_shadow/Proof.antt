@@ -28,16 +28,4 @@ returns-2 c =
     shadow-written (a .size .w) (a .size .h) (paintedPlanes (a .size .w) (a .size .h)) (planes-same (a .size .w) (a .size .h)) (planeOf (a .planes .now) (a .size .w) (a .size .h)) (a .colour) (a .plane .now) (s .pre .0 .exact) false (else .if1 .left) (made .tint-of .ensures) (alphas .shadow-alphas .ensures) (call .tint-planes .ensures)
 
 pub write-plane-shadow-spec : {M : Type 1} → statement M
-write-plane-shadow-spec =
-    tie.close
-    (tie.spec
-    (λ c κs. search needs)
-    (λ c κs. search needs)
-    (λ c κs. search needs)
-    (λ c κs. search needs)
-    (λ c. search needs)
-    (λ c. search needs)
-    returns
-    (λ c. search needs)
-    (λ c. search needs)
-    returns-2)
+write-plane-shadow-spec = tie.close (tie.spec (λ c κs. search needs) (λ c κs. search needs) (λ c κs. search needs) (λ c κs. search needs) (λ c. search needs) (λ c. search needs) returns (λ c. search needs) (λ c. search needs) returns-2)

@@ -70,20 +70,4 @@ returns c =
     all-moved (wholeOffset (a .dx)) (wholeOffset (a .dy)) (a .size .w) (a .size .h) (a .planes .now) (l .loop .planes) (four s) (rw all at (l .loop .inv .2))
 
 pub offset-planes-spec : {M : Type 1} → statement M
-offset-planes-spec =
-    tie.close
-    (tie.spec
-    Inv-loop
-    μ-loop
-    loop-holds
-    mul-start
-    add-offset-plane
-    sub-offset-plane
-    part-offset-plane-start
-    part-offset-plane-end
-    offset-plane-requires
-    (λ c. omega arith)
-    (λ c. omega arith)
-    loop-again
-    (λ c. omega arith)
-    returns)
+offset-planes-spec = tie.close (tie.spec Inv-loop μ-loop loop-holds mul-start add-offset-plane sub-offset-plane part-offset-plane-start part-offset-plane-end offset-plane-requires (λ c. omega arith) (λ c. omega arith) loop-again (λ c. omega arith) returns)

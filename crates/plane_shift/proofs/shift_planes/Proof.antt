@@ -34,12 +34,4 @@ returns-2 c =
     rw (c .before .before .offset-planes .ensures, f .full-size .ensures) (done _ _ _ zero)
 
 pub shift-planes-spec : {M : Type 1} → statement M
-shift-planes-spec =
-    tie.close
-    (tie.spec
-    (λ c κs. search needs)
-    returns
-    full-size-requires
-    offset-planes-requires
-    (λ c. search needs)
-    returns-2)
+shift-planes-spec = tie.close (tie.spec (λ c κs. search needs) returns full-size-requires offset-planes-requires (λ c. search needs) returns-2)

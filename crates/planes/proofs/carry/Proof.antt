@@ -58,17 +58,4 @@ returns : tie.Need-returns Inv-loop μ-loop
 returns c j lj = c .before .loop .inv .2 j (omega arith)
 
 pub carry-spec : {M : Type 1} → statement M
-carry-spec =
-    tie.close
-    (tie.spec
-    Inv-loop
-    μ-loop
-    loop-holds
-    mul-carry-pixel
-    mul-carry-pixel-2
-    carry-pixel-requires
-    (λ c. omega arith)
-    (λ c. omega arith)
-    loop-again
-    (λ c. omega arith)
-    returns)
+carry-spec = tie.close (tie.spec Inv-loop μ-loop loop-holds mul-carry-pixel mul-carry-pixel-2 carry-pixel-requires (λ c. omega arith) (λ c. omega arith) loop-again (λ c. omega arith) returns)

@@ -38,14 +38,4 @@ returns-2 c =
     call-done interleaved (a .src .now) (a .w) (a .h) (a .dst .now) _ (size .before .before .convert-refusal .ensures) (size .before .if1 .left) _ (size .full-size .ensures) _ (work .join .ensures) (work .join .kept .1 .0)
 
 pub from-planes-spec : {M : Type 1} → statement M
-from-planes-spec =
-    tie.close
-    (tie.spec
-    (λ c κs. search needs)
-    returns
-    full-size-requires
-    slice-relend-prefix-join
-    slice-aggregate-join
-    join-requires
-    (λ c. search needs)
-    returns-2)
+from-planes-spec = tie.close (tie.spec (λ c κs. search needs) returns full-size-requires slice-relend-prefix-join slice-aggregate-join join-requires (λ c. search needs) returns-2)

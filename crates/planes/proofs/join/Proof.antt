@@ -30,11 +30,4 @@ returns c =
     join-whole _ _ _ _ _ is (work .carry .kept .1 .1 .0 ∙ blocks .join-blocks .kept .1 .0 ∙ room) (work .carry .ensures)
 
 pub join-spec : {M : Type 1} → statement M
-join-spec =
-    tie.close
-    (tie.spec
-    (λ c κs. search needs)
-    join-blocks-requires
-    carry-requires
-    (λ c. search needs)
-    returns)
+join-spec = tie.close (tie.spec (λ c κs. search needs) join-blocks-requires carry-requires (λ c. search needs) returns)

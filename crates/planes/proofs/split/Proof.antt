@@ -30,12 +30,4 @@ returns c =
     split-whole _ _ _ _ _ is (work .carry .kept .1 .1 .0 ∙ blocks .split-blocks .kept .1 .0 ∙ room) (work .carry .ensures)
 
 pub split-spec : {M : Type 1} → statement M
-split-spec =
-    tie.close
-    (tie.spec
-    (λ c κs. search needs)
-    (λ c. search needs)
-    split-blocks-requires
-    carry-requires
-    (λ c. search needs)
-    returns)
+split-spec = tie.close (tie.spec (λ c κs. search needs) (λ c. search needs) split-blocks-requires carry-requires (λ c. search needs) returns)

@@ -15,21 +15,4 @@ returns c =
     block-split (st .args .n) (st .args .m) (st .args .src .now) (st .pre .1 .1 .0) _ (parted .take-apart .ensures) _ _ _ _ _ (st .pre .1 .1 .1) (one .copy-run .ensures) (two .copy-run2 .ensures) (three .copy-run3 .ensures) (four .copy-run4 .ensures)
 
 pub split-block-spec : {M : Type 1} → statement M
-split-block-spec =
-    tie.close
-    (tie.spec
-    (λ c κs. search needs)
-    (λ c. search needs)
-    (λ c κs. search needs)
-    (λ c. search needs)
-    (λ c. search needs)
-    (λ c κs. search needs)
-    (λ c. search needs)
-    (λ c. search needs)
-    (λ c κs. search needs)
-    (λ c. search needs)
-    (λ c. search needs)
-    (λ c κs. search needs)
-    (λ c. search needs)
-    (λ c. search needs)
-    returns)
+split-block-spec = tie.close (tie.spec (λ c κs. search needs) (λ c. search needs) (λ c κs. search needs) (λ c. search needs) (λ c. search needs) (λ c κs. search needs) (λ c. search needs) (λ c. search needs) (λ c κs. search needs) (λ c. search needs) (λ c. search needs) (λ c κs. search needs) (λ c. search needs) (λ c. search needs) returns)

@@ -45,19 +45,4 @@ returns-2 c =
     (l .loop .inv .0, blocks-end (st .args .n) (st .args .src .now) (l .loop .dst) (l .loop .m) (l .loop .inv .4))
 
 pub split-blocks-spec : {M : Type 1} → statement M
-split-blocks-spec =
-    tie.close
-    (tie.spec
-    Inv-loop
-    μ-loop
-    (λ c. (omega arith, λ j l. absurd (omega arith)))
-    carry-requires
-    loop-holds
-    (λ c. omega arith)
-    split-block-requires
-    (λ c. omega arith)
-    (λ c. omega arith)
-    loop-again
-    (λ c. omega arith)
-    (λ c. omega arith)
-    returns-2)
+split-blocks-spec = tie.close (tie.spec Inv-loop μ-loop (λ c. (omega arith, λ j l. absurd (omega arith))) carry-requires loop-holds (λ c. omega arith) split-block-requires (λ c. omega arith) (λ c. omega arith) loop-again (λ c. omega arith) (λ c. omega arith) returns-2)

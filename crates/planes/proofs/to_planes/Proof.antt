@@ -38,14 +38,4 @@ returns-2 c =
     call-done planar (a .src .now) (a .w) (a .h) (a .dst .now) _ (size .before .before .convert-refusal .ensures) (size .before .if1 .left) _ (size .full-size .ensures) _ (work .split .ensures) (work .split .kept .1 .0)
 
 pub to-planes-spec : {M : Type 1} → statement M
-to-planes-spec =
-    tie.close
-    (tie.spec
-    (λ c κs. search needs)
-    returns
-    full-size-requires
-    slice-relend-prefix-split
-    slice-aggregate-split
-    split-requires
-    (λ c. search needs)
-    returns-2)
+to-planes-spec = tie.close (tie.spec (λ c κs. search needs) returns full-size-requires slice-relend-prefix-split slice-aggregate-split split-requires (λ c. search needs) returns-2)

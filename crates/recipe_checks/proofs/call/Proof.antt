@@ -34,17 +34,4 @@ returns-3 c =
     ∙ ap (λ (weights : List Float). kernelCall weights (a .w) (a .h) (a .step) (lentCopy (a .picture .now) (a .scratch .now) (a .copy .now))) (c .before .before .before .before .before .before .before .before .before .before .kernel-part .ensures))
 
 pub call-spec : {M : Type 1} → statement M
-call-spec =
-    tie.close
-    (tie.spec
-    (λ c κs. search needs)
-    returns
-    (λ c κs. search needs)
-    (λ c. search needs)
-    returns-2
-    kernel-part-requires
-    (λ c κs. search needs)
-    (λ c. search needs)
-    (λ c. search needs)
-    (λ c. search needs)
-    returns-3)
+call-spec = tie.close (tie.spec (λ c κs. search needs) returns (λ c κs. search needs) (λ c. search needs) returns-2 kernel-part-requires (λ c κs. search needs) (λ c. search needs) (λ c. search needs) (λ c. search needs) returns-3)

@@ -25,16 +25,4 @@ returns-2 c =
     ∙ ap (λ (r : Recipe). shadowOutcome (a .picture .now) (a .w) (a .h) (a .scratch .now) (a .copy .now) (a .weights .now) (s .n) (s .edge) r (composited s)) (c .before .before .before .before .before .before .before .before .before .before .before .recipe-of .ensures))
 
 pub call-with-kernel-spec : {M : Type 1} → statement M
-call-with-kernel-spec =
-    tie.close
-    (tie.spec
-    (λ c κs. search needs)
-    (λ c. search needs)
-    (λ c. search needs)
-    returns
-    (λ c κs. search needs)
-    (λ c κs. search needs)
-    (λ c. search needs)
-    (λ c. search needs)
-    (λ c. search needs)
-    returns-2)
+call-with-kernel-spec = tie.close (tie.spec (λ c κs. search needs) (λ c. search needs) (λ c. search needs) returns (λ c κs. search needs) (λ c κs. search needs) (λ c. search needs) (λ c. search needs) (λ c. search needs) returns-2)

@@ -42,14 +42,4 @@ unfolding finished
 returns-2 c = let some = ne-eqb _ 0 (c .if1 .left) in (refl, rw some refl, rw some refl)
 
 pub finish-spec : {M : Type 1} → statement M
-finish-spec =
-    tie.close
-    (tie.spec
-    full-size-requires
-    bytes-requires
-    clear-requires
-    clear-requires-2
-    (λ c. search needs)
-    (λ c. search needs)
-    returns
-    returns-2)
+finish-spec = tie.close (tie.spec full-size-requires bytes-requires clear-requires clear-requires-2 (λ c. search needs) (λ c. search needs) returns returns-2)

@@ -9,15 +9,4 @@ unfolding firstElse
 returns c = cc
 
 pub kernel-own-spec : {M : Type 1} → statement M
-kernel-own-spec =
-    tie.close
-    (tie.spec
-    (λ c κs. c .before .pre)
-    (λ c κs. search needs)
-    (λ c. search needs)
-    (λ c κs. search needs)
-    (λ c κs. search needs)
-    (λ c κs. search needs)
-    (λ c κs. search needs)
-    (λ c κs. search needs)
-    returns)
+kernel-own-spec = tie.close (tie.spec (λ c κs. c .before .pre) (λ c κs. search needs) (λ c. search needs) (λ c κs. search needs) (λ c κs. search needs) (λ c κs. search needs) (λ c κs. search needs) (λ c κs. search needs) returns)

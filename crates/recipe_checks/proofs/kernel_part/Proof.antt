@@ -30,14 +30,4 @@ unfolding kernelOf maxTaps
 returns c = let a = c .before .before .before .args in rw (add-sub-cancel-left (33 * a .k) (c .before .least .result), c .before .least .ensures)
 
 pub kernel-part-spec : {M : Type 1} → statement M
-kernel-part-spec =
-    tie.close
-    (tie.spec
-    mul-a
-    (λ c κs. search needs)
-    add-e
-    (λ c. search needs)
-    (λ c. search needs)
-    (λ c. search needs)
-    part-result-end
-    returns)
+kernel-part-spec = tie.close (tie.spec mul-a (λ c κs. search needs) add-e (λ c. search needs) (λ c. search needs) (λ c. search needs) part-result-end returns)

@@ -27,14 +27,4 @@ returns-3 c =
     (rw (ne-eqb _ 1 (c .before .before .if2 .left)) (in-front-of _ _ (c .kernel-own .ensures) (c .before .late-refusal .ensures)))
 
 pub own-refusal-spec : {M : Type 1} → statement M
-own-refusal-spec =
-    tie.close
-    (tie.spec
-    (λ c κs. search needs)
-    returns
-    (λ c κs. search needs)
-    (λ c κs. search needs)
-    returns-2
-    (λ c κs. search needs)
-    kernel-own-requires
-    returns-3)
+own-refusal-spec = tie.close (tie.spec (λ c κs. search needs) returns (λ c κs. search needs) (λ c κs. search needs) returns-2 (λ c κs. search needs) kernel-own-requires returns-3)

@@ -16,12 +16,4 @@ unfolding ranStep
 returns-2 c = rw (ne-eqb _ 0 (c .if1 .left))
 
 pub run-step-spec : {M : Type 1} → statement M
-run-step-spec =
-    tie.close
-    (tie.spec
-    (λ c κs. search needs)
-    (λ c. search needs)
-    (λ c. search needs)
-    (λ c. search needs)
-    returns
-    returns-2)
+run-step-spec = tie.close (tie.spec (λ c κs. search needs) (λ c. search needs) (λ c. search needs) (λ c. search needs) returns returns-2)

@@ -58,16 +58,4 @@ returns c =
     rw e at (c .before .loop .inv .2)
 
 pub double-inner-spec : {M : Type 1} → statement M
-double-inner-spec =
-    tie.close
-    (tie.spec
-    Inv-loop
-    μ-loop
-    loop-holds
-    add-loop
-    double-inside-requires
-    add-x
-    (λ c. omega arith)
-    loop-again
-    same-length
-    returns)
+double-inner-spec = tie.close (tie.spec Inv-loop μ-loop loop-holds add-loop double-inside-requires add-x (λ c. omega arith) loop-again same-length returns)

@@ -60,17 +60,4 @@ returns c =
     rw e at (c .before .loop .inv .3)
 
 pub halve-inner-spec : {M : Type 1} → statement M
-halve-inner-spec =
-    tie.close
-    (tie.spec
-    Inv-loop
-    μ-loop
-    loop-holds
-    mul-loop
-    add-loop
-    halve-inside-requires
-    add-x
-    (λ c. omega arith)
-    loop-again
-    same-length
-    returns)
+halve-inner-spec = tie.close (tie.spec Inv-loop μ-loop loop-holds mul-loop add-loop halve-inside-requires add-x (λ c. omega arith) loop-again same-length returns)

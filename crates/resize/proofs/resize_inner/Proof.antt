@@ -20,14 +20,4 @@ returns-2 c =
     simp (e .before .before .enum-told2 .given .1) (e .double-inner .ensures)
 
 pub resize-inner-spec : {M : Type 1} → statement M
-resize-inner-spec =
-    tie.close
-    (tie.spec
-    (λ c. search needs)
-    halve-inner-requires
-    (λ c. search needs)
-    double-inner-requires
-    (λ c. search needs)
-    returns
-    (λ c. search needs)
-    returns-2)
+resize-inner-spec = tie.close (tie.spec (λ c. search needs) halve-inner-requires (λ c. search needs) double-inner-requires (λ c. search needs) returns (λ c. search needs) returns-2)

@@ -123,26 +123,4 @@ returns c =
     lined-all (c .before .loop .inv .2 (a .mode) (c .before .before .before .output-taps .ensures) (c .before .before .output-taps2 .ensures)) (a .lines) (st .pre .dst-length) (omega arith)
 
 pub resize-lines-spec : {M : Type 1} → statement M
-resize-lines-spec =
-    tie.close
-    (tie.spec
-    Inv-loop
-    μ-loop
-    output-taps-requires
-    sub-output-taps
-    output-taps-requires-2
-    mul-read
-    mul-made
-    loop-holds
-    mul-start
-    mul-o
-    blend-element-requires
-    resize-inner-requires
-    add-blend-element
-    sub-blend-element
-    blend-element-requires-2
-    (λ c. omega arith)
-    (λ c. omega arith)
-    loop-again
-    same-length
-    returns)
+resize-lines-spec = tie.close (tie.spec Inv-loop μ-loop output-taps-requires sub-output-taps output-taps-requires-2 mul-read mul-made loop-holds mul-start mul-o blend-element-requires resize-inner-requires add-blend-element sub-blend-element blend-element-requires-2 (λ c. omega arith) (λ c. omega arith) loop-again same-length returns)

@@ -47,17 +47,4 @@ returns c =
     l .loop .inv .2 ∙ rw e
 
 pub count-blocks-spec : {M : Type 1} → statement M
-count-blocks-spec =
-    tie.close
-    (tie.spec
-    Inv-loop
-    μ-loop
-    loop-holds
-    (λ c κs. (omega arith, omega arith))
-    (λ c. search needs)
-    add-count
-    (λ c. omega arith)
-    (λ c. omega arith)
-    loop-again
-    (λ c. omega arith)
-    returns)
+count-blocks-spec = tie.close (tie.spec Inv-loop μ-loop loop-holds (λ c κs. (omega arith, omega arith)) (λ c. search needs) add-count (λ c. omega arith) (λ c. omega arith) loop-again (λ c. omega arith) returns)

@@ -27,14 +27,4 @@ returns : tie.Need-returns
 returns c = both c
 
 pub count-exceeding-spec : {M : Type 1} → statement M
-count-exceeding-spec =
-    tie.close
-    (tie.spec
-    (λ c. search needs)
-    (λ c. search needs)
-    (λ c κs. search needs)
-    (λ c. search needs)
-    (λ c. search needs)
-    (λ c κs. search needs)
-    add-result
-    returns)
+count-exceeding-spec = tie.close (tie.spec (λ c. search needs) (λ c. search needs) (λ c κs. search needs) (λ c. search needs) (λ c. search needs) (λ c κs. search needs) add-result returns)

@@ -26,12 +26,4 @@ returns c =
     c .before .before .count-block .ensures ∙ ap (howMany (λ k. exceedsAt (s .args .picture .now) (s .args .from + k))) (size s)
 
 pub count-rest-spec : {M : Type 1} → statement M
-count-rest-spec =
-    tie.close
-    (tie.spec
-    (λ c. search needs)
-    slice-aggregate-count-block
-    count-block-requires
-    (λ c. search needs)
-    (λ c. search needs)
-    returns)
+count-rest-spec = tie.close (tie.spec (λ c. search needs) slice-aggregate-count-block count-block-requires (λ c. search needs) (λ c. search needs) returns)

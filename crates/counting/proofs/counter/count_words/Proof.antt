@@ -44,17 +44,4 @@ returns c =
     l .loop .inv .1 ∙ rw e
 
 pub count-words-spec : {M : Type 1} → statement M
-count-words-spec =
-    tie.close
-    (tie.spec
-    Inv-loop
-    μ-loop
-    loop-holds
-    (λ c. search needs)
-    (λ c. search needs)
-    (λ c κs. search needs)
-    add-count
-    (λ c. search needs)
-    (λ c. search needs)
-    loop-again
-    returns)
+count-words-spec = tie.close (tie.spec Inv-loop μ-loop loop-holds (λ c. search needs) (λ c. search needs) (λ c κs. search needs) add-count (λ c. search needs) (λ c. search needs) loop-again returns)

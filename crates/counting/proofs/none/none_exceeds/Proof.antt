@@ -24,13 +24,4 @@ returns-3 c =
     (λ e. eqb-false _ 0 (sym (c .before .none-in-blocks .ensures) ∙ c .if2 .left) (fewer-none (exceedsAt (a .picture .now)) _ (a .n) (omega arith) e)))
 
 pub none-exceeds-spec : {M : Type 1} → statement M
-none-exceeds-spec =
-    tie.close
-    (tie.spec
-    returns
-    (λ c. search needs)
-    (λ c. search needs)
-    (λ c κs. search needs)
-    none-in-rest-requires
-    (λ c. search needs)
-    returns-3)
+none-exceeds-spec = tie.close (tie.spec returns (λ c. search needs) (λ c. search needs) (λ c κs. search needs) none-in-rest-requires (λ c. search needs) returns-3)

@@ -45,15 +45,4 @@ returns-2 c =
     all-none (exceedsAt (l .before .before .args .picture .now)) {n = l .before .before .args .n} (omega arith) (l .loop .inv .2)
 
 pub none-in-blocks-spec : {M : Type 1} → statement M
-none-in-blocks-spec =
-    tie.close
-    (tie.spec
-    Inv-loop
-    μ-loop
-    loop-holds
-    (λ c κs. omega arith)
-    returns
-    (λ c. search needs)
-    (λ c. omega arith)
-    loop-again
-    returns-2)
+none-in-blocks-spec = tie.close (tie.spec Inv-loop μ-loop loop-holds (λ c κs. omega arith) returns (λ c. search needs) (λ c. omega arith) loop-again returns-2)

@@ -40,16 +40,4 @@ returns-2 c =
     all-none (exceedsAt (l .before .before .args .picture .now)) {n = l .before .before .args .n} (omega arith) (l .loop .inv .1)
 
 pub none-in-rest-spec : {M : Type 1} → statement M
-none-in-rest-spec =
-    tie.close
-    (tie.spec
-    Inv-loop
-    μ-loop
-    loop-holds
-    (λ c κs. search needs)
-    (λ c κs. search needs)
-    returns
-    (λ c. search needs)
-    (λ c. search needs)
-    loop-again
-    returns-2)
+none-in-rest-spec = tie.close (tie.spec Inv-loop μ-loop loop-holds (λ c κs. search needs) (λ c κs. search needs) returns (λ c. search needs) (λ c. search needs) loop-again returns-2)

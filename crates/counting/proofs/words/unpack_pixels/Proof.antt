@@ -1,11 +1,10 @@
 -- The first k pixels are written, and the bytes after them are as they were.
-use mathlib.Core.Path.{_≡_}
-use mathlib.Core.List.{append-nil}
 use Prim.Native.Nat.{_-_, _*_}
 use native.Mathlib.Omega.{arith}
 use borrow.Author.Needs.{needs}
 use lib.ListN.{length, getD}
-use lib.Seq.{drop-length}
+use Rattle.picture.proofs.Build.{build-ext}
+use Rattle.picture.proofs.Spans.{span-at}
 use Rattle.pixels.proofs.Painting.{Painting, begins, turn}
 use Rattle.counting.specs.Words.{byteIn}
 use Rattle.counting.proofs.words.unpack_pixels.Statement.{statement}
@@ -17,9 +16,6 @@ Inv-loop bytes₀ words k₀ bytes k = Painting (λ i. byteIn (getD words i 0)) 
 abbrev μ-loop : tie.MeasureT-loop
 μ-loop bytes₀ words k₀ bytes k = length words - k
 
-loop-holds : tie.Need-loop-holds Inv-loop μ-loop
-loop-holds c = begins
-
 loop-again : tie.Need-loop-again Inv-loop μ-loop
 loop-again c =
     let set = c .before .before in
@@ -29,24 +25,8 @@ loop-again c =
 
 returns : tie.Need-returns Inv-loop μ-loop
 returns c =
-    let at = c .before in
-    let s = at .before .before .before in
-    let all : 4 * at .loop .k ≡ length (s .args .bytes .now) = omega arith in
-    rw (at .loop .inv .so, all, drop-length (s .args .bytes .now), append-nil)
+    let s = c .before .before .before .before in
+    build-ext (length (s .args .bytes .now)) _ _ (c .before .loop .inv .run .size) (λ i l. span-at (c .before .loop .inv .run) i (omega arith) (omega arith) (omega arith))
 
 pub unpack-pixels-spec : {M : Type 1} → statement M
-unpack-pixels-spec =
-    tie.close
-    (tie.spec
-    Inv-loop
-    μ-loop
-    loop-holds
-    (λ c. omega arith)
-    (λ c. search needs)
-    (λ c κs. search needs)
-    (λ c κs. omega arith)
-    (λ c. search needs)
-    (λ c. search needs)
-    loop-again
-    (λ c. search needs)
-    returns)
+unpack-pixels-spec = tie.close (tie.spec Inv-loop μ-loop (λ c. begins) (λ c. omega arith) (λ c. search needs) (λ c κs. search needs) (λ c κs. omega arith) (λ c. search needs) (λ c. search needs) loop-again (λ c. search needs) returns)

@@ -34,24 +34,4 @@ returns c =
     (span-ends (one .lay-bytes .ensures) refl lows) (span-ends (two .lay-bytes2 .ensures) refl lows) (span-ends (three .lay-bytes3 .ensures) refl highs) (span-ends (four .lay-bytes4 .ensures) refl highs)
 
 pub take-apart-spec : {M : Type 1} → statement M
-take-apart-spec =
-    tie.close
-    (tie.spec
-    (λ c. search needs)
-    (λ c κs. search needs)
-    (λ c. search needs)
-    (λ c. search needs)
-    (λ c κs. search needs)
-    (λ c. search needs)
-    (λ c. search needs)
-    (λ c κs. search needs)
-    (λ c. search needs)
-    (λ c κs. search needs)
-    (λ c. search needs)
-    (λ c κs. search needs)
-    (λ c. search needs)
-    (λ c κs. search needs)
-    (λ c. search needs)
-    lay-bytes-requires-4
-    (λ c. search needs)
-    returns)
+take-apart-spec = tie.close (tie.spec (λ c. search needs) (λ c κs. search needs) (λ c. search needs) (λ c. search needs) (λ c κs. search needs) (λ c. search needs) (λ c. search needs) (λ c κs. search needs) (λ c. search needs) (λ c κs. search needs) (λ c. search needs) (λ c κs. search needs) (λ c. search needs) (λ c κs. search needs) (λ c. search needs) lay-bytes-requires-4 (λ c. search needs) returns)

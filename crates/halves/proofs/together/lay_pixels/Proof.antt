@@ -7,19 +7,19 @@ use lib.ListN.{length, getD}
 use Rattle.picture.specs.Spans.{Run}
 use Rattle.picture.proofs.Spans.{span-none, span-ends}
 use Rattle.counting.specs.Words.{unpacked, byteIn}
-use Rattle.halves.proofs.Joined.{pixel-more}
+use Rattle.pixels.proofs.Painting.{pixel-more}
 use Rattle.halves.proofs.together.lay_pixels.Statement.{statement}
 use Rattle.halves.proofs.together.lay_pixels.Tie as tie
 
 abbrev Inv-loop : tie.InvT-loop
 Inv-loop dst₀ m low high k₀ dst k =
-    (k ≤ length low) × (length dst ≡ length dst₀) × Run 0 dst₀ dst (4 * m) (4 * k) (λ j. byteIn (getD low (j / 4) 0 + getD high (j / 4) 0 * 65536) (j % 4))
+    (k ≤ length low) × Run 0 dst₀ dst (4 * m) (4 * k) (λ j. byteIn (getD low (j / 4) 0 + getD high (j / 4) 0 * 65536) (j % 4))
 
 abbrev μ-loop : tie.MeasureT-loop
 μ-loop dst₀ m low high k₀ dst k = length low - k
 
 loop-holds : tie.Need-loop-holds Inv-loop μ-loop
-loop-holds c = (omega arith, refl, span-none (omega arith))
+loop-holds c = (omega arith, span-none (omega arith))
 
 loop-again : tie.Need-loop-again Inv-loop μ-loop
 loop-again c =
@@ -29,31 +29,12 @@ loop-again c =
     let l = made .before .before .before .before .before in
     let a = l .before .before .before .before .args in (
       omega arith,
-      laid .set-pixel .kept .0 ∙ l .loop .inv .1,
-      pixel-more (λ i. byteIn (getD (a .low .now) i 0 + getD (a .high .now) i 0 * 65536)) (a .dst .now) (a .m) (l .loop .k) _ _ (read .unpack .result) (l .loop .inv .2) (omega arith) (laid .set-pixel .ensures)
+      pixel-more (λ i. byteIn (getD (a .low .now) i 0 + getD (a .high .now) i 0 * 65536)) (l .loop .k) _ (read .unpack .result) (l .loop .inv .1) (omega arith) (omega arith) (laid .set-pixel .ensures)
           (read .unpack .ensures ∙ ap unpacked (made .word .ensures)),
     )
 
 returns : tie.Need-returns Inv-loop μ-loop
-returns c = span-ends (c .before .loop .inv .2) refl (omega arith)
+returns c = span-ends (c .before .loop .inv .1) refl (omega arith)
 
 pub lay-pixels-spec : {M : Type 1} → statement M
-lay-pixels-spec =
-    tie.close
-    (tie.spec
-    Inv-loop
-    μ-loop
-    loop-holds
-    (λ c. search needs)
-    (λ c. search needs)
-    (λ c. omega arith)
-    (λ c. search needs)
-    (λ c. omega arith)
-    (λ c κs. search needs)
-    (λ c κs. search needs)
-    (λ c κs. omega arith)
-    (λ c. search needs)
-    (λ c. omega arith)
-    loop-again
-    (λ c. omega arith)
-    returns)
+lay-pixels-spec = tie.close (tie.spec Inv-loop μ-loop loop-holds (λ c. search needs) (λ c. search needs) (λ c. omega arith) (λ c. search needs) (λ c. omega arith) (λ c κs. search needs) (λ c κs. search needs) (λ c κs. omega arith) (λ c. search needs) (λ c. omega arith) loop-again (λ c. omega arith) returns)

@@ -33,7 +33,7 @@ module _ (c : tie.In-loop Inv-loop μ-loop) where
   start = c .before .before
 
   inside : 4 * c .before .loop .i + 4 ≤ length (c .before .loop .picture)
-  inside = omega (arith, all start, start .before .before .pre .0 .exact, c .before .loop .inv .painting .same)
+  inside = omega (arith, all start, start .before .before .pre .0 .exact, c .before .loop .inv .painting .run .size)
 
   small : c .before .loop .i < 4294967296
   small = omega (arith, all start, area (start .before .before .pre .0 .sized))
@@ -57,7 +57,7 @@ loop-again c =
     turn-more (at .before .loop .inv) (omega arith) (fits at) (inside at) (call .mend-one .ensures .0) (call .mend-one .ensures .1 .0) (call .mend-one .ensures .1 .1) (call .mend-one .kept .1 .0)
 
 same-length : tie.Need-same-length Inv-loop μ-loop
-same-length c = c .before .loop .inv .painting .same
+same-length c = c .before .loop .inv .painting .run .size
 
 same-length-2 : tie.Need-same-length-2 Inv-loop μ-loop
 same-length-2 c = c .before .loop .inv .room

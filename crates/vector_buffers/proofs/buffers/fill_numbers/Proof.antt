@@ -1,49 +1,21 @@
 -- The first i numbers are filled, and the others are as they were.
-use mathlib.Core.Path.{_≡_, refl}
-use mathlib.Core.List.{_++_}
-use Prim.Native.Nat.{_-_, _≤_}
+use Prim.Native.Nat.{_-_}
 use native.Mathlib.Omega.{arith}
 use borrow.Author.Needs.{needs}
-use lib.ListN.{length, drop, length-set}
-use Rattle.picture.specs.Build.{build}
+use lib.ListN.{length}
 use Rattle.vector_buffers.specs.Buffers.{numberAt}
-use Rattle.vector_buffers.proofs.Filled.{stored, stored-all}
+use Rattle.picture.proofs.Filled.{Filling, fills-none, fills-more, fills-build}
 use Rattle.vector_buffers.proofs.buffers.fill_numbers.Statement.{statement}
 use Rattle.vector_buffers.proofs.buffers.fill_numbers.Tie as tie
 
 abbrev Inv-loop : tie.InvT-loop
-Inv-loop to₀ v at n i₀ to i = (i ≤ length to₀) × (to ≡ build i (numberAt v at n) ++ drop i to₀) × (length to ≡ length to₀)
+Inv-loop to₀ v at n i₀ to i = Filling 0 (numberAt v at n) to₀ to i
 
 abbrev μ-loop : tie.MeasureT-loop
 μ-loop to₀ v at n i₀ to i = length to₀ - i
 
-loop-holds : tie.Need-loop-holds Inv-loop μ-loop
-unfolding build
-loop-holds c = (omega arith, refl, refl)
-
-loop-again : tie.Need-loop-again Inv-loop μ-loop
-loop-again c =
-    let l = c .before .before in
-    let s = l .before .before .before .args in
-    (omega arith, stored (numberAt (s .v .now) (s .at) (s .n)) (s .to .now) (l .loop .i) (l .loop .inv .1) (omega arith) (c .number-at .ensures), simp length-set (l .loop .inv .2))
-
-returns : tie.Need-returns Inv-loop μ-loop
-returns c =
-    let s = c .before .before .before .before .args in
-    stored-all (numberAt (s .v .now) (s .at) (s .n)) (s .to .now) (c .before .loop .i) (c .before .loop .inv .1) (omega arith)
-
 pub fill-numbers-spec : {M : Type 1} → statement M
 fill-numbers-spec =
     tie.close
-    (tie.spec
-    Inv-loop
-    μ-loop
-    loop-holds
-    (λ c κs. search needs)
-    (λ c. omega arith)
-    (λ c. omega arith)
-    (λ c. omega arith)
-    (λ c. omega arith)
-    loop-again
-    (λ c. omega arith)
-    returns)
+    (tie.spec Inv-loop μ-loop (λ c. fills-none) (λ c κs. search needs) (λ c. omega arith) (λ c. omega arith) (λ c. omega arith) (λ c. omega arith)
+    (λ c. fills-more (c .before .before .loop .inv) (omega arith) (c .number-at .ensures)) (λ c. omega arith) (λ c. fills-build (c .before .loop .inv) (omega arith)))

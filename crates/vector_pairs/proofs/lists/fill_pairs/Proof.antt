@@ -1,53 +1,21 @@
 -- The first i pairs are taken, and the others are as they were.
-use mathlib.Core.Path.{_≡_, refl}
-use mathlib.Core.List.{_++_, map}
-use Prim.Native.Nat.{_-_, _≤_}
+use Prim.Native.Nat.{_-_}
 use native.Mathlib.Omega.{arith}
-use lib.ListN.{length, take, drop, length-set}
-use Rattle.picture.specs.Build.{build}
-use Rattle.picture.proofs.Build.{length-build, getD-build}
+use lib.ListN.{length}
 use Rattle.vector_pairs.specs.Pairs.{pairIn}
-use Rattle.vector_buffers.proofs.Filled.{map-more, map-whole}
+use Rattle.picture.proofs.Filled.{Filling, fills-none, fills-more}
+use Rattle.vector_buffers.proofs.Filled.{fills-places}
 use Rattle.vector_pairs.proofs.lists.fill_pairs.Statement.{statement}
 use Rattle.vector_pairs.proofs.lists.fill_pairs.Tie as tie
 
 abbrev Inv-loop : tie.InvT-loop
-Inv-loop to₀ numbers i₀ to i = (i ≤ length to₀) × (to ≡ map (pairIn numbers) (take i (build (length to₀) (λ k. k))) ++ drop i to₀) × (length to ≡ length to₀)
+Inv-loop to₀ numbers i₀ to i = Filling (pairIn numbers 0) (pairIn numbers) to₀ to i
 
 abbrev μ-loop : tie.MeasureT-loop
 μ-loop to₀ numbers i₀ to i = length to₀ - i
 
-loop-holds : tie.Need-loop-holds Inv-loop μ-loop
-loop-holds c = (omega arith, refl, refl)
-
-loop-again : tie.Need-loop-again Inv-loop μ-loop
-loop-again c =
-    let l = c .before .before in
-    let s = l .before .before .args in
-    let ix = build (length (s .to .now)) (λ k. k) in
-    let e = length-build (length (s .to .now)) (λ k. k) in
-    let m = rw (getD-build (length (s .to .now)) (λ k. k) (l .loop .i) (omega arith)) at (map-more (pairIn (s .numbers .now)) ix (s .to .now) (l .loop .i) (omega arith) (omega arith)) in
-    (omega arith, rw (l .loop .inv .1, c .pair-in .ensures) m, simp length-set (l .loop .inv .2))
-
-returns : tie.Need-returns Inv-loop μ-loop
-returns c =
-    let s = c .before .before .before .args in
-    let ix = build (length (s .to .now)) (λ k. k) in
-    let e = length-build (length (s .to .now)) (λ k. k) in
-    rw (c .before .loop .inv .1) (map-whole (pairIn (s .numbers .now)) ix (s .to .now) (c .before .loop .i) (omega arith) (omega arith))
-
 pub fill-pairs-spec : {M : Type 1} → statement M
 fill-pairs-spec =
     tie.close
-    (tie.spec
-    Inv-loop
-    μ-loop
-    loop-holds
-    (λ c κs. omega arith)
-    (λ c. omega arith)
-    (λ c. omega arith)
-    (λ c. omega arith)
-    (λ c. omega arith)
-    loop-again
-    (λ c. omega arith)
-    returns)
+    (tie.spec Inv-loop μ-loop (λ c. fills-none) (λ c κs. omega arith) (λ c. omega arith) (λ c. omega arith) (λ c. omega arith) (λ c. omega arith)
+    (λ c. fills-more (c .before .before .loop .inv) (omega arith) (c .pair-in .ensures)) (λ c. omega arith) (λ c. fills-places (c .before .loop .inv) (omega arith)))

@@ -1,50 +1,23 @@
 -- The first i words are the same.
-use mathlib.Core.Path.{_≡_, refl, ap}
-use mathlib.Core.Bool.{false≢true}
-use mathlib.Core.List.{List}
-use Prim.Native.Nat.{ℕ, _-_, _≤_}
+use Prim.Native.Nat.{_-_}
 use native.Mathlib.Omega.{arith}
-use lib.ListN.{length, getD, take}
-use Rattle.vector_buffers.proofs.Pairs.{same-more, same-whole}
+use lib.ListN.{length}
+use Rattle.vector_buffers.proofs.Pairs.{differ, Alike, alike-none, alike-more, alike-all}
 use Rattle.vector_words.proofs.words.same_words.Statement.{statement}
 use Rattle.vector_words.proofs.words.same_words.Tie as tie
 
 abbrev Inv-loop : tie.InvT-loop
-Inv-loop a b i₀ i = (i ≤ length a) × (take i a ≡ take i b)
+Inv-loop a b i₀ i = Alike a b i
 
 abbrev μ-loop : tie.MeasureT-loop
 μ-loop a b i₀ i = length a - i
 
-loop-holds : tie.Need-loop-holds Inv-loop μ-loop
-loop-holds c = (omega arith, refl)
-
 returns : tie.Need-returns Inv-loop μ-loop
-returns c = ((λ e. absurd (false≢true e)), (λ e. absurd (c .if1 .taken (ap (λ (l : List ℕ). getD l (c .before .before .before .before .loop .i) 0) e))))
+returns c = differ (c .before .before .before .before .loop .i) 0 (c .if1 .taken)
 
 loop-again : tie.Need-loop-again Inv-loop μ-loop
-loop-again c =
-    let l = c .before .before .before .before in
-    let s = l .before .args in
-    (omega arith, same-more (s .a .now) (s .b .now) (l .loop .i) 0 (omega arith) (omega arith) (l .loop .inv .1) (c .if1 .left))
-
-returns-2 : tie.Need-returns-2 Inv-loop μ-loop
-returns-2 c =
-    let s = c .before .before .args in
-    ((λ e. same-whole (s .a .now) (s .b .now) (c .before .loop .i) (omega arith) (omega arith) (c .before .loop .inv .1)), (λ e. refl))
+loop-again c = alike-more (c .before .before .before .before .loop .inv) 0 (omega arith) (omega arith) (c .if1 .left)
 
 pub same-words-spec : {M : Type 1} → statement M
 same-words-spec =
-    tie.close
-    (tie.spec
-    Inv-loop
-    μ-loop
-    loop-holds
-    (λ c. omega arith)
-    (λ c. omega arith)
-    (λ c. omega arith)
-    (λ c. omega arith)
-    returns
-    (λ c. omega arith)
-    (λ c. omega arith)
-    loop-again
-    returns-2)
+    tie.close (tie.spec Inv-loop μ-loop (λ c. alike-none) (λ c. omega arith) (λ c. omega arith) (λ c. omega arith) (λ c. omega arith) returns (λ c. omega arith) (λ c. omega arith) loop-again (λ c. alike-all (c .before .loop .inv) (omega arith) (omega arith)))

@@ -7,11 +7,4 @@ returns : tie.Need-returns
 returns c = (rw (c .before .before .before .before .numbers-from .ensures .0) at (c .before .fill-words .ensures), search needs)
 
 pub words-from-spec : {M : Type 1} → statement M
-words-from-spec =
-    tie.close
-    (tie.spec
-    (λ c κs. search needs)
-    (λ c. search needs)
-    (λ c. search needs)
-    (λ c κs. search needs)
-    returns)
+words-from-spec = tie.close (tie.spec (λ c κs. search needs) (λ c. search needs) (λ c. search needs) (λ c κs. search needs) returns)
