@@ -143,6 +143,18 @@ fn long(random: &mut Random, take: Take) {
     }
 }
 
+/// Pictures of about as many rows as are turned at once, 8192 pixels and what is left of the last row, and of twice as many.
+fn bands(random: &mut Random, take: Take) {
+    for (i, w) in [1, 2, 5, 16, 17, 64, 90, 128, 300].into_iter().enumerate() {
+        let rows = 8192 / w + 1;
+        for (edge, h) in [rows - 1, rows, rows + 1, 2 * rows + 1].into_iter().enumerate() {
+            let taps = random.pick(&[11, 13, 33]);
+            let numerators = kernel(random, taps);
+            take(blur(random, w, h, i as u32 % 2, edge as u32, numerators));
+        }
+    }
+}
+
 /// Every byte under kernels that meet halves and come just below them, and bright pictures.
 fn halves(random: &mut Random, take: Take) {
     let bytes: Vec<u8> = (0..256).flat_map(|i| [i as u8, 255 - i as u8, (i / 2) as u8, (i * 7) as u8]).collect();
@@ -166,6 +178,7 @@ pub fn all(random: &mut Random, take: Take) {
     for group in [kernels, sizes, long, halves] {
         group(random, take);
     }
+    bands(&mut Random::new(21), take);
 }
 
 /// Small ones to be stored.
