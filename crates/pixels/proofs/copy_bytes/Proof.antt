@@ -13,6 +13,9 @@ Inv-loop to₀ from i₀ to i = Filling 0 (λ k. getD from k 0) to₀ to i
 abbrev μ-loop : tie.MeasureT-loop
 μ-loop to₀ from i₀ to i = length to₀ - i
 
+loop-holds : tie.Need-loop-holds Inv-loop μ-loop
+loop-holds c = fills-none
+
 loop-again : tie.Need-loop-again Inv-loop μ-loop
 loop-again c = fills-more (c .before .before .loop .inv) (omega arith) refl
 
@@ -20,4 +23,4 @@ returns : tie.Need-returns Inv-loop μ-loop
 returns c = fills-all (c .before .loop .inv) (c .before .before .args .from .now) (omega arith) (c .before .before .pre) (λ k h. refl)
 
 pub copy-bytes-spec : {M : Type 1} → statement M
-copy-bytes-spec = tie.close (tie.spec Inv-loop μ-loop (λ c. fills-none) (λ c. omega arith) (λ c. omega arith) (λ c. omega arith) (λ c. omega arith) loop-again (λ c. omega arith) returns)
+copy-bytes-spec = tie.close (tie.spec Inv-loop μ-loop loop-holds (λ c. omega arith) (λ c. omega arith) (λ c. omega arith) (λ c. omega arith) loop-again (λ c. omega arith) returns)

@@ -15,6 +15,9 @@ Inv-loop bytes₀ from to n i₀ bytes i = (i ≤ n) × Span 0 bytes₀ bytes to
 abbrev μ-loop : tie.MeasureT-loop
 μ-loop bytes₀ from to n i₀ bytes i = i
 
+loop-holds : tie.Need-loop-holds Inv-loop μ-loop
+loop-holds c = (omega arith, span-none (omega arith))
+
 loop-again : tie.Need-loop-again Inv-loop μ-loop
 loop-again c =
     let l = c .before .before in
@@ -25,4 +28,4 @@ returns : tie.Need-returns Inv-loop μ-loop
 returns c = let a = c .before .before .args in run-placed (a .n) (a .to) _ (a .bytes .now) (span-ends (c .before .loop .inv .1) (omega arith) refl)
 
 pub copy-forward-spec : {M : Type 1} → statement M
-copy-forward-spec = tie.close (tie.spec Inv-loop μ-loop (λ c. (omega arith, span-none (omega arith))) (λ c. omega arith) (λ c. omega arith) (λ c. omega arith) (λ c. omega arith) (λ c. omega arith) (λ c. omega arith) loop-again (λ c. omega arith) returns)
+copy-forward-spec = tie.close (tie.spec Inv-loop μ-loop loop-holds (λ c. omega arith) (λ c. omega arith) (λ c. omega arith) (λ c. omega arith) (λ c. omega arith) (λ c. omega arith) loop-again (λ c. omega arith) returns)
