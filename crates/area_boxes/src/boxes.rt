@@ -10,7 +10,7 @@ use area::table::{corner, less, short_table};
 const LARGEST_BOX: usize = 16843009;
 
 // The refusals that a box is given.
-#[derive(Drop)]
+#[derive(Clone, Copy)]
 pub enum BoxRefusal {
     WrongSides,
     TooShort,
@@ -31,13 +31,13 @@ impl BoxRefusal {
 }
 
 // The sum of a box's alphas.
-#[derive(Drop)]
+#[derive(Clone, Copy)]
 pub struct AreaSum {
     pub alphas: u32,
 }
 
 // What a box is answered.
-#[derive(Drop)]
+#[derive(Clone, Copy)]
 pub enum Boxed {
     Refused(BoxRefusal),
     Sum(AreaSum),

@@ -1,1 +1,2 @@
 // What holds of area sums, call after call: laws, no code.
+#![tactic(auto)]

@@ -8,7 +8,7 @@ use crate::taps::carry_taps;
 use picture::EdgeMode;
 
 // A pass of the blur.
-#[derive(Drop)]
+#[derive(Clone, Copy)]
 pub enum PassKind {
     Halve,
     Double,

@@ -1,4 +1,6 @@
 // What each element of a line is worth to one output of the exact blur, worked out backwards through its passes.
+#![tactic(auto)]
+
 mod line;
 mod side;
 

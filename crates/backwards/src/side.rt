@@ -5,7 +5,7 @@ ghost use Rattle.picture.specs.Sizes.{side_room, half};
 use picture::FullSize;
 
 // A side in one level's pixels.
-#[derive(Drop)]
+#[derive(Clone, Copy)]
 pub struct LevelSide {
     s: usize,
 }

@@ -1,5 +1,7 @@
 // Binary32 values: the ranges that entries accept, rounding to a channel or to a whole offset, and
 // the grid of weights.
+#![tactic(auto)]
+
 ghost use Rattle.std.specs.Prelude.{◌≡◌, ◌*◌, ◌≤◌, false, T, if◌then◌else◌};
 ghost use Rattle.std.specs.Float.Ieee.{lt};
 ghost use Rattle.std.specs.Float.Ieee.Positive.{num, den};
@@ -8,14 +10,14 @@ ghost use Rattle.binary32.specs.Round.{top32, round_half_up, to_byte, held_size,
 ghost use Rattle.binary32.specs.Grid.{grid_weight, off_grid};
 
 // A whole offset: plus - minus, where one of them is 0.
-#[derive(Drop)]
+#[derive(Clone, Copy)]
 pub struct Offset {
     pub plus: usize,
     pub minus: usize,
 }
 
 // A weight as a multiple of 1 / 65536.
-#[derive(Drop)]
+#[derive(Clone, Copy)]
 pub enum GridWeight {
     Numerator(u32),
     Off,

@@ -1,4 +1,6 @@
 // Bytes blended in weights 1, 3, 3, 1 over 8, and by them the outputs of a halved or doubled line.
+#![tactic(auto)]
+
 ghost use Rattle.std.specs.Prelude.{◌≡◌, ◌+◌, ◌*◌, ◌/◌, ◌%◌, ◌≤◌, ◌<◌, ◌^◌, length, get_or};
 ghost use Rattle.picture.specs.Sizes.{side_room};
 ghost use Rattle.picture.specs.Spans.{Run};
@@ -12,14 +14,14 @@ use edges::{At, extend};
 use picture::{EdgeMode, Pixel};
 
 // Where the bytes of a place start, from the line's start on, and the weight that they have.
-#[derive(Drop)]
+#[derive(Clone, Copy)]
 struct Tap {
     at: usize,
     weight: u16,
 }
 
 // The four taps of an output.
-#[derive(Drop)]
+#[derive(Clone, Copy)]
 pub struct Taps {
     a: usize,
     b: usize,

@@ -1,5 +1,7 @@
 // One block of a line convolved: it is filled with its values, which are summed lane by lane under each tap and
 // rounded.
+#![tactic(auto)]
+
 ghost use Rattle.std.specs.Prelude.{◌+◌, ◌-◌, ◌*◌, ◌≤◌, ◌<◌, min, length};
 ghost use Rattle.block_sums.specs.Bytes.{Convolved, Elements, Strip};
 ghost use Rattle.block_sums.specs.Room.{Source, lanes, BlockRoom};

@@ -1,5 +1,7 @@
 // The values that a convolution reads: bytes made floats once for a block of elements. Edges are worked out as a
 // block is filled, once for each element.
+#![tactic(auto)]
+
 ghost use Rattle.std.specs.Prelude.{◌≡◌, ◌+◌, ◌-◌, ◌*◌, ◌≤◌, ◌<◌, length};
 ghost use Rattle.std.specs.Float.{nan};
 ghost use Rattle.picture.specs.Spans.{Run};

@@ -1,4 +1,6 @@
 // One body of a plate, blurred where it lies inside the lent file.
+#![tactic(auto)]
+
 ghost use Rattle.std.specs.Prelude.{◌≡◌};
 ghost use Rattle.picture.specs.Planes.{bytes_of, cleared};
 ghost use Rattle.picture.specs.Answer.{lent};

@@ -1,4 +1,6 @@
 // Small callers of the library, each with a contract in words of its own that is proved from the public contracts alone.
+#![tactic(auto)]
+
 ghost use Rattle.std.specs.Prelude.{◌≡◌, [], ◌∷◌};
 ghost use Rattle.client_examples.specs.Pixels.{alphas};
 ghost use Rattle.client_examples.specs.Told.{Told};

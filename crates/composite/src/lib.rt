@@ -1,4 +1,6 @@
 // The coloured shadow, and the original over it.
+#![tactic(auto)]
+
 ghost use Rattle.std.specs.Prelude.{◌≡◌, T, length, true, false, ◌*◌};
 ghost use Rattle.std.specs.Float.{binary32};
 ghost use Rattle.std.specs.Float.Ieee.{mul};
@@ -16,7 +18,7 @@ use picture::{FullSize, Pixel};
 use pixels::{pixel_at, premultiply, set_pixel, wide};
 
 // A colour, its components from 0 to 1.
-#[derive(Drop)]
+#[derive(Clone, Copy)]
 pub struct Colour {
     pub red: f32,
     pub green: f32,
@@ -25,7 +27,7 @@ pub struct Colour {
 }
 
 // A colour's channels as bytes, which an alpha multiplies.
-#[derive(Drop)]
+#[derive(Clone, Copy)]
 pub struct Tint {
     pub red: u8,
     pub green: u8,

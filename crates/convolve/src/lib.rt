@@ -1,4 +1,6 @@
 // The convolution of lines and levels, block by block.
+#![tactic(auto)]
+
 ghost use Rattle.std.specs.Prelude.{◌≡◌, ℕ, ◌+◌, ◌-◌, ◌*◌, ◌/◌, ◌≤◌, ◌<◌, length, get_or};
 ghost use Rattle.picture.specs.Sizes.{Sized};
 ghost use Rattle.passes.specs.Passes.{convolve};

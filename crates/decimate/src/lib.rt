@@ -1,4 +1,6 @@
 // Halving and doubling of whole levels, in any form.
+#![tactic(auto)]
+
 ghost use Rattle.std.specs.Prelude.{◌≡◌, ◌*◌, ◌≤◌, take};
 ghost use Rattle.picture.specs.Sizes.{side_room, half_level};
 ghost use Rattle.passes.specs.Passes.{halve, double};
@@ -13,7 +15,7 @@ use picture::{EdgeMode, LevelSize};
 use resize::Resize;
 
 // Rows as lines: how many, and the bytes of an element.
-#[derive(Drop)]
+#[derive(Clone, Copy)]
 struct Rows {
     lines: usize,
     stride: usize,

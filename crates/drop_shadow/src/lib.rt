@@ -1,4 +1,6 @@
 // The drop shadow: the recipe, apply_drop_shadow, and the entry `shadow`.
+#![tactic(auto)]
+
 ghost use Rattle.std.specs.Prelude.{◌≡◌, false, length};
 ghost use Rattle.picture.specs.Planes.{cleared};
 ghost use Rattle.picture.specs.Sizes.{full_bytes};
@@ -14,7 +16,7 @@ use passes::Form;
 use picture::{EdgeMode, FullSize};
 
 // How a shadow is cast: its offsets, its blur's strength and its colour.
-#[derive(Drop)]
+#[derive(Clone, Copy)]
 pub struct Recipe {
     pub dx: f32,
     pub dy: f32,
@@ -37,7 +39,7 @@ pub fn colour_of(recipe: Recipe) -> Colour
 }
 
 // How an accepted call casts its shadow: the picture's size, the blur's decimations and edge mode, the recipe, and whether the original is laid over it.
-#[derive(Drop)]
+#[derive(Clone, Copy)]
 pub struct Casting {
     pub size: FullSize,
     pub n: u32,

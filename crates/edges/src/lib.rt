@@ -1,4 +1,6 @@
 // The edge rules: which element of a line a coordinate reads.
+#![tactic(auto)]
+
 ghost use Rattle.std.specs.Prelude.{◌≡◌, ◌*◌, ◌<◌, ◌≤◌};
 ghost use Rattle.picture.specs.Sizes.{side_room};
 ghost use Rattle.picture.specs.declared.EdgeMode.TheVariants.{Duplicate, Wrap, Mirror, None};
@@ -9,7 +11,7 @@ ghost use Rattle.edges.specs.Whole.{place_of};
 use picture::EdgeMode;
 
 // An element of a line, or none.
-#[derive(Drop)]
+#[derive(Clone, Copy)]
 pub enum At {
     Inside(usize),
     Outside,

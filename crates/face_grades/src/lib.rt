@@ -1,3 +1,5 @@
 // Grading and mending as C and C++ link them: each function is one call of its entry; include/corbelrush.h declares them.
+#![tactic(auto)]
+
 pub mod grades;
 pub mod mends;

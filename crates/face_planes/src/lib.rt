@@ -1,4 +1,6 @@
 // Four planes as C and C++ link them: each function is one call of its entry; include/corbelrush.h declares them.
+#![tactic(auto)]
+
 ghost use Rattle.std.specs.Prelude.{◌≡◌};
 ghost use Rattle.picture.specs.Answer.{answered, lent, lent_copy};
 ghost use Rattle.planes.specs.Outcome.{to_planes_outcome, from_planes_outcome};

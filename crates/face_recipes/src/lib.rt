@@ -1,4 +1,6 @@
 // Lists of recipes for C. A recipe is a struct of 52 bytes; include/corbelrush.h declares it and the function.
+#![tactic(auto)]
+
 ghost use Rattle.std.specs.Prelude.{◌≡◌};
 ghost use Rattle.picture.specs.Answer.{answered, lent_copy};
 ghost use Rattle.recipes.specs.Chain.{chain_left, chain_outcome};

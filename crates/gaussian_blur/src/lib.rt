@@ -1,4 +1,6 @@
 // The Gaussian blur with decimation: apply_blur, and the entry `blur`.
+#![tactic(auto)]
+
 ghost use Rattle.std.specs.Prelude.{◌≡◌, length};
 ghost use Rattle.picture.specs.Planes.{bytes_of, cleared};
 ghost use Rattle.picture.specs.Sizes.{Sized, FullSized};

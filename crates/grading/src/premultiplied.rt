@@ -8,13 +8,13 @@ use picture::FullSize;
 use pixels::{exceeds, pixel_at};
 
 // A place in a picture: the number y * w + x.
-#[derive(Drop)]
+#[derive(Clone, Copy)]
 pub struct Place {
     pub at: usize,
 }
 
 // The refusals that the check gives.
-#[derive(Drop)]
+#[derive(Clone, Copy)]
 pub enum PictureRefusal {
     WrongSides,
     WrongLength,
@@ -33,7 +33,7 @@ impl PictureRefusal {
 }
 
 // What the check answers.
-#[derive(Drop)]
+#[derive(Clone, Copy)]
 pub enum Checked {
     Refused(PictureRefusal),
     Fits,

@@ -8,7 +8,7 @@ use picture::{FullSize, Pixel};
 use pixels::pixel_at;
 
 // A view of a picture, as anyone may make one.
-#[derive(Drop)]
+#[derive(Clone, Copy)]
 pub struct View<'a> {
     pub picture: &'a [u8],
     pub w: u32,

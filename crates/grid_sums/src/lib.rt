@@ -1,4 +1,6 @@
 // Kernels of whole numbers: their sum, and runs of a line summed lane by lane under all numerators and rounded. Nothing here is a float.
+#![tactic(auto)]
+
 ghost use Rattle.std.specs.Prelude.{◌≡◌, ℕ, ◌+◌, ◌*◌, ◌/◌, ◌%◌, ◌≤◌, ◌<◌, length, get_or};
 ghost use Rattle.picture.specs.Spans.{Run};
 ghost use Rattle.edges.specs.Edges.{sample, Reach};

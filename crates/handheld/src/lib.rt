@@ -1,4 +1,6 @@
 // The blur in whole numbers alone, for C: a library for a reader without a float unit.
+#![tactic(auto)]
+
 ghost use Rattle.std.specs.Prelude.{◌≡◌};
 ghost use Rattle.picture.specs.Answer.{answered, lent};
 ghost use Rattle.whole_blur.specs.Outcome.{whole_outcome};

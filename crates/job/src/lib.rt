@@ -1,4 +1,6 @@
 // The plate job: each body is blurred where it lies inside the lent file.
+#![tactic(auto)]
+
 mod longest;
 
 ghost use Rattle.std.specs.Prelude.{◌≡◌, true, ◌≤◌, length};

@@ -1,5 +1,7 @@
 // Loops over lanes: bytes made floats, weighted sums of floats, and sums made bytes. Each goes over values that lie one after the
 // other, with no branch inside, so that the compiler makes vector code of it.
+#![tactic(auto)]
+
 ghost use Rattle.std.specs.Prelude.{◌≡◌, ℕ, ◌+◌, ◌≤◌, ◌<◌, T, length, get_or};
 ghost use Rattle.std.specs.Float.{nan};
 ghost use Rattle.binary32.specs.Ranges.{zero32, nonneg};

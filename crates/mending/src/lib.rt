@@ -1,2 +1,4 @@
 // Mending a picture, with a list of what was changed.
+#![tactic(auto)]
+
 pub mod mender;

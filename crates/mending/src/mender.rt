@@ -14,7 +14,7 @@ use picture::{FullSize, Pixel};
 use pixels::{exceeds, pixel_at, set_pixel};
 
 // The refusals that the mender gives.
-#[derive(Drop)]
+#[derive(Clone, Copy)]
 pub enum MendRefusal {
     WrongSides,
     WrongLength,
@@ -35,7 +35,7 @@ impl MendRefusal {
 }
 
 // What the mender answers: how many pixels it changed.
-#[derive(Drop)]
+#[derive(Clone, Copy)]
 pub enum Mended {
     Refused(MendRefusal),
     Count(usize),

@@ -1,4 +1,6 @@
 // Opaque pixels in front of others, copied a block of 32 pixels at a time: inward and outward they stay as they are.
+#![tactic(auto)]
+
 ghost use Rattle.std.specs.Prelude.{◌≡◌, false, ℕ, ◌*◌, ◌≤◌, ◌<◌, length, get_or};
 ghost use Rattle.opaque.specs.Front.{Opaque, Front};
 

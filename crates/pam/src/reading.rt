@@ -6,7 +6,7 @@ use pam_convert::bodies::read_body;
 use picture::FullSize;
 
 // Why a file is not read.
-#[derive(Drop)]
+#[derive(Clone, Copy)]
 pub enum ImportRefusal {
     NoPam,
     TooShort,
@@ -25,7 +25,7 @@ impl ImportRefusal {
 }
 
 // What reading a file answers.
-#[derive(Drop)]
+#[derive(Clone, Copy)]
 pub enum Imported {
     Refused(ImportRefusal),
     Read(FullSize),

@@ -9,7 +9,7 @@ use grading::premultiplied::{Checked, PictureRefusal, Place};
 use pam_convert::bodies::write_body;
 
 // What writing a file answers: refusals 1 and 2, refusal 16 with the first place, refusal 3, or how many bytes were written.
-#[derive(Drop)]
+#[derive(Clone, Copy)]
 pub enum Exported {
     Refused(PictureRefusal),
     Exceeds(Place),

@@ -1,4 +1,6 @@
 // The testers' image files, Netpbm PAM: their header, written and read by one spelling.
+#![tactic(auto)]
+
 ghost use Rattle.std.specs.Prelude.{◌≡◌, false, ◌+◌, ◌^◌, ◌≤◌, length};
 ghost use Rattle.picture.specs.Planes.{laid};
 ghost use Rattle.picture.specs.Refusal.{wrong_sides};

@@ -1,4 +1,6 @@
 // The line passes and the blur as definitions and laws, and how a picture's bytes lie; the code that makes the passes is in the crates above.
+#![tactic(auto)]
+
 ghost use Rattle.std.specs.Prelude.{◌≡◌};
 ghost use Rattle.picture.specs.Sizes.{Sized};
 ghost use Rattle.passes.specs.Forms.{form_bytes, Formed};
@@ -7,7 +9,7 @@ use picture::LevelSize;
 
 // How a picture's bytes lie: so many planes one after the other, each of elements of so many bytes. A picture of pixels is one plane of
 // elements of four bytes; as planes it is four of single bytes.
-#[derive(Drop)]
+#[derive(Clone, Copy)]
 pub struct Form {
     pub planes: usize,
     pub lanes: usize,

@@ -1,4 +1,6 @@
 // A picture's sizes, pixels and edge rules, and the checks that several entries share.
+#![tactic(auto)]
+
 ghost use Rattle.std.specs.Prelude.{◌≡◌, true, false, cond};
 ghost use Rattle.picture.specs.Sizes.{full_size, level_zero, half_level, full_bytes, level_bytes, FullSized, Sized};
 ghost use Rattle.picture.specs.Modes.{mode_of};
@@ -61,21 +63,21 @@ pub const MAX_TAPS: usize = 33;
 pub const MAX_DECIMATIONS: u32 = 14;
 
 // A size in full pixels.
-#[derive(Drop)]
+#[derive(Clone, Copy)]
 pub struct FullSize {
     w: usize,
     h: usize,
 }
 
 // A size in one level's pixels.
-#[derive(Drop)]
+#[derive(Clone, Copy)]
 pub struct LevelSize {
     w: usize,
     h: usize,
 }
 
 // One pixel, premultiplied.
-#[derive(Drop)]
+#[derive(Clone, Copy)]
 pub struct Pixel {
     pub r: u8,
     pub g: u8,
@@ -84,7 +86,7 @@ pub struct Pixel {
 }
 
 // What a picture is beyond its borders.
-#[derive(Drop)]
+#[derive(Clone, Copy)]
 pub enum EdgeMode {
     Duplicate,
     Wrap,

@@ -1,4 +1,6 @@
 // One pixel of a picture read, written and packed into a word, whether a channel of it exceeds alpha, a channel multiplied by its alpha; and bytes copied.
+#![tactic(auto)]
+
 ghost use Rattle.std.specs.Prelude.{◌≡◌, ◌+◌, ◌*◌, ◌≤◌, length, get_or};
 ghost use Rattle.picture.specs.Spans.{Run};
 ghost use Rattle.pixels.specs.Pixels.{pixel_at, with_pixel, packed};

@@ -1,4 +1,6 @@
 // The blur on four planes, with the refusals of that on a picture.
+#![tactic(auto)]
+
 ghost use Rattle.std.specs.Prelude.{◌≡◌};
 ghost use Rattle.picture.specs.Planes.{bytes_of, cleared};
 ghost use Rattle.picture.specs.Answer.{answered, lent};

@@ -1,1 +1,2 @@
 // What holds of every call on four planes: laws, no code.
+#![tactic(auto)]

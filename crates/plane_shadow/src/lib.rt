@@ -1,4 +1,6 @@
 // The shadow on four planes, with the refusals of that on a picture: alpha's plane alone is shifted and blurred.
+#![tactic(auto)]
+
 ghost use Rattle.std.specs.Prelude.{◌≡◌, true, false, ◌*◌, ◌<◌, length};
 ghost use Rattle.picture.specs.Planes.{cleared};
 ghost use Rattle.picture.specs.Sizes.{full_bytes};

@@ -1,4 +1,6 @@
 // The shift on four planes, with the refusals of that on a picture: each plane is moved by itself, where it lies.
+#![tactic(auto)]
+
 ghost use Rattle.std.specs.Prelude.{◌≡◌};
 ghost use Rattle.picture.specs.Answer.{answered};
 ghost use Rattle.binary32.specs.Round.{whole_offset};

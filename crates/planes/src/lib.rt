@@ -1,4 +1,6 @@
 // A picture as four planes: all r, then all g, b and a; and back.
+#![tactic(auto)]
+
 ghost use Rattle.std.specs.Prelude.{◌≡◌, ◌+◌, ◌*◌, ◌≤◌, ◌<◌, length};
 ghost use Rattle.picture.specs.Refusal.{first_of};
 ghost use Rattle.picture.specs.Answer.{answered};
@@ -12,7 +14,7 @@ use picture::FullSize;
 use pixels::copy_run;
 
 // How far apart two channels of a pixel stand, and one channel of two pixels.
-#[derive(Drop)]
+#[derive(Clone, Copy)]
 struct Steps {
     channel: usize,
     pixel: usize,

@@ -1,4 +1,6 @@
 // Picture of a plate: which stretch of the caller's own file it is, and which unit and sheet stand beside it.
+#![tactic(auto)]
+
 ghost use Rattle.std.specs.Prelude.{◌≡◌, ◌≤◌};
 ghost use Rattle.picture.specs.Slice.{slice_part};
 ghost use Rattle.plate.specs.Lookup.{lookup_number, answers, looked_up, stretch_in, stretch_of, unit_number, labels, labelled_up, Finds};
@@ -7,21 +9,21 @@ use picture::{BROKEN_PLATE, FullSize, NO_PICTURE};
 use plate_format::Entry;
 
 // Why a picture of a plate is refused.
-#[derive(Drop)]
+#[derive(Clone, Copy)]
 pub enum Refusal {
     BrokenPlate,
     NoPicture,
 }
 
 // A stretch of a plate file: where it starts, and how long it is.
-#[derive(Drop)]
+#[derive(Clone, Copy)]
 pub struct Stretch {
     pub offset: usize,
     pub length: usize,
 }
 
 // What asking for a picture of a plate finds.
-#[derive(Drop)]
+#[derive(Clone, Copy)]
 pub enum Lookup {
     Refused(Refusal),
     Found { size: FullSize, stretch: Stretch },
@@ -56,14 +58,14 @@ impl Lookup {
 }
 
 // What asking for the entry of that index finds.
-#[derive(Drop)]
+#[derive(Clone, Copy)]
 pub enum Asked {
     Unlisted(Refusal),
     Listed(Entry),
 }
 
 // The unit of a picture: none in version 1.
-#[derive(Drop)]
+#[derive(Clone, Copy)]
 pub enum Unit {
     Unnamed,
     Milliohm,
@@ -84,7 +86,7 @@ impl Unit {
 }
 
 // What asking for the label of a picture finds.
-#[derive(Drop)]
+#[derive(Clone, Copy)]
 pub enum Labelling {
     NoLabel(Refusal),
     Named { unit: Unit, sheet: u16 },

@@ -1,11 +1,13 @@
 // Writing plates in a lent buffer: an empty one.
+#![tactic(auto)]
+
 ghost use Rattle.std.specs.Prelude.{◌≡◌};
 ghost use Rattle.plate_empty.specs.Outcome.{start_number, starts, start_outcome};
 
 use picture::{BROKEN_PLATE, NO_ROOM};
 
 // Why a plate is not started.
-#[derive(Drop)]
+#[derive(Clone, Copy)]
 pub enum StartRefusal {
     UnknownVersion,
     NoHeaderRoom,
@@ -24,7 +26,7 @@ impl StartRefusal {
 }
 
 // What starting a plate comes to: its length in use.
-#[derive(Drop)]
+#[derive(Clone, Copy)]
 pub enum Started {
     NotStarted(StartRefusal),
     Empty(usize),

@@ -1,4 +1,6 @@
 // The plate file: its table, and whether some bytes are a plate.
+#![tactic(auto)]
+
 ghost use Rattle.std.specs.Prelude.{◌≡◌, true, ◌+◌, ◌<◌, ◌≤◌, length};
 ghost use Rattle.plate_numbers.specs.Numbers.{version, count, labelled};
 ghost use Rattle.plate_format.specs.Format.{entry_at, label_at, entry_of, body_offset, obeys, filled, is_plate};
@@ -11,7 +13,7 @@ pub const HEADER: usize = 4;
 pub const MAX_COUNT: usize = 64;
 
 // One entry of the table, as the file has it; version 1 has no unit and no sheet, which are 0 there.
-#[derive(Drop)]
+#[derive(Clone, Copy)]
 pub struct Entry {
     pub width: u16,
     pub height: u16,

@@ -1,4 +1,6 @@
 // Reads a plate on standard input and writes it with each picture blurred, or `refused 10` and a newline.
+#![tactic(auto)]
+
 ghost use Rattle.std.specs.Prelude.{◌≡◌, ◌≤◌, length};
 ghost use Rattle.picture.specs.Answer.{answered};
 ghost use Rattle.plate_job.specs.Program.{longest_input, answer_to};

@@ -1,4 +1,6 @@
 // The numbers of a plate file, and what its version fixes.
+#![tactic(auto)]
+
 ghost use Rattle.std.specs.Prelude.{◌≡◌, ◌+◌, ◌<◌, ◌≤◌, length};
 ghost use Rattle.plate_numbers.specs.Numbers.{u16_at, u32_at, version, count, known, labelled, entry_size, larger, largest_side, largest_whole, wrong_unit};
 

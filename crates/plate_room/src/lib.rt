@@ -1,4 +1,6 @@
 // A picture that is to be added to a plate: whether some bytes are a plate, the entry that the picture gets, and whether there is room.
+#![tactic(auto)]
+
 ghost use Rattle.std.specs.Prelude.{◌≡◌, true, false, ◌<◌, ◌≤◌, length};
 ghost use Rattle.picture.specs.Refusal.{wrong_sides};
 ghost use Rattle.plate_numbers.specs.Numbers.{version, labelled, wrong_unit};

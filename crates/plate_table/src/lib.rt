@@ -1,4 +1,6 @@
 // Header and table of a plate, written where they stand: the table of a plate that gets one entry more, anew from front to back.
+#![tactic(auto)]
+
 pub mod fields;
 
 ghost use Rattle.std.specs.Prelude.{◌≡◌, ◌+◌, ◌<◌};

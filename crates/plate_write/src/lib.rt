@@ -1,4 +1,6 @@
 // Writing plates in a lent buffer: one picture more at a time.
+#![tactic(auto)]
+
 ghost use Rattle.std.specs.Prelude.{◌≡◌};
 ghost use Rattle.picture.specs.Planes.{laid};
 ghost use Rattle.plate.specs.Lookup.{beside};
@@ -11,7 +13,7 @@ ghost use Rattle.plate_write.specs.Steps.{Adding};
 use picture::{BROKEN_PLATE, NO_ROOM, WRONG_LENGTH, WRONG_SIDES};
 
 // Why a picture is not added.
-#[derive(Drop)]
+#[derive(Clone, Copy)]
 pub enum AddRefusal {
     BrokenPlate,
     WrongSides,
@@ -34,7 +36,7 @@ impl AddRefusal {
 }
 
 // What adding a picture comes to: the new length in use.
-#[derive(Drop)]
+#[derive(Clone, Copy)]
 pub enum Added {
     Refused(AddRefusal),
     InUse(usize),

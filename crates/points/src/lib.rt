@@ -1,4 +1,6 @@
 // The points of an output: the places with a share, listed row by row from the shares of the two axes.
+#![tactic(auto)]
+
 ghost use Rattle.std.specs.Prelude.{◌≡◌, List, ℕ, ◌+◌, ◌*◌, length};
 ghost use Rattle.picture.specs.Buffers.{line_of};
 ghost use Rattle.mending.specs.Changes.{laid_entries};

@@ -1,1 +1,2 @@
 // Premultiplied stays premultiplied: definitions and laws, no code.
+#![tactic(auto)]

@@ -1,4 +1,6 @@
 // One recipe of a list: its own checks, and the single call that it names.
+#![tactic(auto)]
+
 ghost use Rattle.std.specs.Prelude.{◌≡◌, cond, ◌<◌, eqb, length};
 ghost use Rattle.picture.specs.Refusal.{first_else, first_of};
 ghost use Rattle.picture.specs.Answer.{answered, lent_copy};
@@ -16,7 +18,7 @@ pub const SHADOW: u32 = 2;
 
 // One recipe: an operation and its numbers. What the operation does not name is not read.
 #[repr(C)]
-#[derive(Drop)]
+#[derive(Clone, Copy)]
 pub struct Step {
     pub operation: u32,
     pub kernel: u32,
@@ -34,7 +36,7 @@ pub struct Step {
 }
 
 // What a chain answers: 0, or the refusal's number and the index of the recipe whose own it is, else 0.
-#[derive(Drop)]
+#[derive(Clone, Copy)]
 pub struct Chained {
     pub number: u32,
     pub index: usize,

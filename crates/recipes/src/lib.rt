@@ -1,4 +1,6 @@
 // Lists of recipes: all are checked before the first runs, and then they run in order on one picture.
+#![tactic(auto)]
+
 ghost use Rattle.std.specs.Prelude.{◌≡◌, ◌<◌, length};
 ghost use Rattle.picture.specs.Answer.{lent_copy};
 ghost use Rattle.recipes.specs.Chain.{step_at, all_noted, chain_answer, chain_outcome};

@@ -1,4 +1,6 @@
 // Runs the stored vectors on standard input through the library, and prints how many agree.
+#![tactic(auto)]
+
 ghost use Rattle.std.specs.Prelude.{◌≡◌, length};
 ghost use Rattle.replay.specs.Counts.{OneMore};
 
@@ -10,7 +12,7 @@ use vectors::agrees;
 const LONGEST: usize = 1048576;
 
 // How many vectors of an entry there are, how many of them agree, and the line of the first that does not, or 0.
-#[derive(Drop)]
+#[derive(Clone, Copy)]
 struct Tally {
     seen: u64,
     agreed: u64,
@@ -18,7 +20,7 @@ struct Tally {
 }
 
 // What a line adds to the counts of an entry. Entry 0 stands for every line, broken ones too.
-#[derive(Drop)]
+#[derive(Clone, Copy)]
 struct LineCount {
     seen: u64,
     agreed: u64,

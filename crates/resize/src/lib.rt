@@ -1,4 +1,6 @@
 // Halving and doubling of lines, rows and columns alike: the outputs at the two ends by the edge rule, those between with no test.
+#![tactic(auto)]
+
 ghost use Rattle.std.specs.Prelude.{◌≡◌, ◌+◌, ◌-◌, ◌*◌, ◌<◌};
 ghost use Rattle.picture.specs.Sizes.{side_room};
 ghost use Rattle.passes.specs.Passes.{halve, double};
@@ -13,7 +15,7 @@ use blend::{Taps, blend_element, double_inside, double_taps, halve_inside, halve
 use picture::EdgeMode;
 
 // Whether a line is halved or doubled.
-#[derive(Drop)]
+#[derive(Clone, Copy)]
 pub enum Resize {
     Halve,
     Double,

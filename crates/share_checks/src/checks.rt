@@ -7,7 +7,7 @@ ghost use Rattle.share_checks.specs.Checks.{place_outside, share_number, checked
 const MAX_SHARE_DEPTH: u32 = 3;
 
 // The refusals that both entries give.
-#[derive(Drop)]
+#[derive(Clone, Copy)]
 pub enum ShareRefusal {
     WrongSides,
     WrongTaps,
@@ -34,7 +34,7 @@ impl ShareRefusal {
 }
 
 // What the checks come to.
-#[derive(Drop)]
+#[derive(Clone, Copy)]
 pub enum Checked {
     Refused(ShareRefusal),
     Passed,

@@ -13,7 +13,7 @@ use share_checks::axes::fill_axis;
 use share_checks::checks::{Checked, ShareRefusal, check_share, place_outside};
 
 // What the entry answers: how many points it listed.
-#[derive(Drop)]
+#[derive(Clone, Copy)]
 pub enum Listed {
     Refused(ShareRefusal),
     Full,

@@ -11,7 +11,7 @@ use share_checks::axes::fill_axis;
 use share_checks::checks::{Checked, ShareRefusal, check_share, place_outside};
 
 // What the entry answers: the share, over 2^(10n+32).
-#[derive(Drop)]
+#[derive(Clone, Copy)]
 pub enum Shared {
     Refused(ShareRefusal),
     Share(u64),

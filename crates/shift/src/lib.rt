@@ -1,4 +1,6 @@
 // The shift: offset_pixels moves a picture in place, and the entry `shift` checks and calls it.
+#![tactic(auto)]
+
 ghost use Rattle.std.specs.Prelude.{◌≡◌, ◌||◌, ◌+◌, ◌*◌, ◌≤◌, ◌<◌, length};
 ghost use Rattle.picture.specs.Refusal.{first_of};
 ghost use Rattle.picture.specs.Answer.{answered};
@@ -12,7 +14,7 @@ use binary32::Offset;
 use picture::FullSize;
 
 // A move along bytes: this many forward, or this many back. An `Offset` counts whole pixels, or rows.
-#[derive(Drop)]
+#[derive(Clone, Copy)]
 pub struct ByteOffset {
     pub plus: usize,
     pub minus: usize,

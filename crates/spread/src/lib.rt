@@ -1,4 +1,6 @@
 // The spread report: how far a kernel and the decimations around it spread a pixel.
+#![tactic(auto)]
+
 ghost use Rattle.std.specs.Prelude.{◌≡◌, ◌*◌, ◌^◌, ◌≤◌};
 ghost use Rattle.picture.specs.Refusal.{max_decimations};
 ghost use Rattle.binary32.specs.Grid.{numerator};
@@ -10,13 +12,13 @@ use binary32::GridWeight;
 const HALF_PIXEL: u64 = 65536;
 
 // A spread, in units of 1/131072 of a square full-size pixel.
-#[derive(Drop)]
+#[derive(Clone, Copy)]
 pub struct Spread {
     pub units: u64,
 }
 
 // The refusals that the report gives.
-#[derive(Drop)]
+#[derive(Clone, Copy)]
 pub enum SpreadRefusal {
     WrongTaps,
     TooDeep,
@@ -37,7 +39,7 @@ impl SpreadRefusal {
 }
 
 // What the report answers.
-#[derive(Drop)]
+#[derive(Clone, Copy)]
 pub enum Reported {
     Refused(SpreadRefusal),
     Found(Spread),

@@ -1,4 +1,6 @@
 // Lines turned: the first element of each line, then the second of each, up to the last, so that short lines become few long ones.
+#![tactic(auto)]
+
 ghost use Rattle.std.specs.Prelude.{◌≡◌, ℕ, ◌+◌, ◌*◌, ◌/◌, ◌%◌, ◌≤◌, ◌<◌, length, get_or};
 ghost use Rattle.picture.specs.Spans.{Run};
 ghost use Rattle.turns.specs.Turned.{turned, Turnable};

@@ -1,4 +1,6 @@
 // A channel divided by its alpha, in binary32: a loop over it runs on several pixels at once.
+#![tactic(auto)]
+
 ghost use Rattle.std.specs.Prelude.{◌≡◌, ◌+◌, ◌*◌, ◌≤◌};
 ghost use Rattle.unmultiply.specs.Outward.{outward, Added};
 

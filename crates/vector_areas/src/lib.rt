@@ -1,4 +1,6 @@
 // The functions that are lent a table of words.
+#![tactic(auto)]
+
 use face_areas::areas;
 use vector_buffers::{bounds, buffers, left};
 use vector_parts::replies::{Reply, UNSET};

@@ -1,5 +1,7 @@
 // The functions that are lent two buffers with content: a plate and a picture for it, a picture and its file, or a picture and
 // its planes.
+#![tactic(auto)]
+
 use face_files::{images, plates};
 use vector_buffers::{buffers, left};
 use vector_parts::replies::{Reply, UNSET};

@@ -1,4 +1,6 @@
 // The functions that are lent work buffers.
+#![tactic(auto)]
+
 use face_files::plates;
 use face_filters::filters;
 use vector_buffers::{buffers, left};

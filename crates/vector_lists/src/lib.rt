@@ -1,4 +1,6 @@
 // The functions that are lent a picture and a list of pairs: a place and a pixel each.
+#![tactic(auto)]
+
 use face_grades::mends;
 use vector_buffers::{bounds, buffers, left};
 use vector_pairs::lists;

@@ -1,2 +1,4 @@
 // A list of pairs of words of a stored vector.
+#![tactic(auto)]
+
 pub mod lists;

@@ -9,7 +9,7 @@ pub const HEAD: usize = 29;
 
 // A list of a vector: how many numbers it has, where they begin, before the call and after it, and where the next list begins.
 // A part that is not there ends at 0.
-#[derive(Drop)]
+#[derive(Clone, Copy)]
 pub struct Part {
     pub count: usize,
     pub before: usize,

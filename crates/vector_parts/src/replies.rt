@@ -9,7 +9,7 @@ use vector_values::head;
 pub const UNSET: u32 = 3735928559;
 
 // The number returned, and what is behind the out-parameters in their order, or 0.
-#[derive(Drop)]
+#[derive(Clone, Copy)]
 pub struct Reply {
     pub number: u32,
     pub first: u64,

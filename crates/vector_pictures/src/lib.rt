@@ -1,4 +1,6 @@
 // The functions that are lent a picture, its planes or a plate, and no other buffer.
+#![tactic(auto)]
+
 use face_files::plates;
 use face_filters::filters;
 use face_grades::grades;

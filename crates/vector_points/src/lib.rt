@@ -1,4 +1,6 @@
 // A list of pairs of 64-bit words, filled with the numbers of a vector and compared with them.
+#![tactic(auto)]
+
 ghost use Rattle.std.specs.Prelude.{◌≡◌, map, ◌+◌, ◌*◌, ◌≤◌, ◌<◌, length};
 ghost use Rattle.picture.specs.Build.{build};
 ghost use Rattle.vector_values.specs.Values.{tells};

@@ -1,4 +1,6 @@
 // The function that is lent a list of recipes: lists of eight, since an array has a length that is known.
+#![tactic(auto)]
+
 ghost use Rattle.std.specs.Prelude.{◌≡◌, ◌≤◌};
 ghost use Rattle.picture.specs.Answer.{answered, lent_copy};
 ghost use Rattle.recipes.specs.Chain.{chain_left, chain_outcome};

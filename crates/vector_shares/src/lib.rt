@@ -1,4 +1,6 @@
 // The functions that are lent numerators and no picture: a share, and a list of points.
+#![tactic(auto)]
+
 use face_shares::explains;
 use vector_parts::replies::{Reply, UNSET};
 use vector_parts::{parts, replies};

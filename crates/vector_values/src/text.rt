@@ -13,7 +13,7 @@ pub fn buffer() -> [u64; MOST_NUMBERS]
 }
 
 // A number and the place after it; broken where no digit stands, or the number does not fit.
-#[derive(Drop)]
+#[derive(Clone, Copy)]
 pub enum Reading {
     Number { value: u64, end: usize },
     Broken,

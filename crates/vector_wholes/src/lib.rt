@@ -1,4 +1,6 @@
 // The function that is lent numerators and a work buffer.
+#![tactic(auto)]
+
 use face_filters::wholes;
 use vector_buffers::{buffers, left};
 use vector_parts::replies::Reply;

@@ -1,5 +1,7 @@
 // Whether the library does what a stored vector says. The functions stand by what they are lent, each family in a crate or
 // module of its own that fills its buffers, makes the call and compares what is left.
+#![tactic(auto)]
+
 mod kernels;
 mod shape;
 

@@ -1,4 +1,6 @@
 // The blur in whole numbers: the recursion over levels, and the entry `blur_whole`. No float is used here or in what it calls.
+#![tactic(auto)]
+
 ghost use Rattle.std.specs.Prelude.{◌≡◌};
 ghost use Rattle.picture.specs.Planes.{bytes_of, cleared};
 ghost use Rattle.picture.specs.Refusal.{first_else, first_of};

@@ -1,4 +1,6 @@
 // The whole-number convolution of lines and levels, run by run. Nothing here is a float.
+#![tactic(auto)]
+
 ghost use Rattle.std.specs.Prelude.{◌≡◌, false, ◌*◌, ◌≤◌, ◌<◌, ◌^◌, length};
 ghost use Rattle.picture.specs.Sizes.{side_room, level_bytes, Sized};
 ghost use Rattle.picture.specs.Refusal.{wrong_taps};
@@ -19,7 +21,7 @@ const LANES: usize = 1024;
 const BAND: usize = 8192;
 
 // A run of a line: n lanes, from lane `from` of element x on, and whether all that their taps read lies inside.
-#[derive(Drop)]
+#[derive(Clone, Copy)]
 struct LineRun {
     x: usize,
     from: usize,
