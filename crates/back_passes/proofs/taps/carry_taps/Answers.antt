@@ -1,0 +1,68 @@
+use mathlib.Core.Path.{◌≡◌, refl, ◌∙◌, subst}
+use Prim.Native.Nat.{ℕ, ◌+◌, ◌-◌, ◌*◌, ◌≤◌}
+use native.Mathlib.Omega.{arith}
+use lib.ListN.{length, get_or}
+use Rattle.edges.specs.Edges.{sample}
+use Rattle.binary32.specs.Grid.{sum}
+use Rattle.back_passes.specs.Worth.{total, Gained}
+use Rattle.back_passes.specs.Steps.{tap_sum}
+use Rattle.back_passes.proofs.Taken.{taps_none, taps_more, taps_room}
+use Rattle.back_passes.proofs.taps.carry_taps.Goals as goal
+use Rattle.back_passes.proofs.taps.carry_taps.Lts as lts
+use Rattle.back_passes.proofs.taps.carry_taps.Reads as reads
+use Rattle.back_passes.proofs.taps.carry_taps.Tie as tie
+
+abbrev the_In-loop-j : Type 0
+the_In-loop-j = lts.In-loop tie.the-claims reads.Pre reads.Post goal.the-invariant-loop-j goal.the-decreases-loop-j
+
+pub loop-j-init : goal.loop-j-init
+loop-j-init c =
+    let a = c.args in
+    (omega arith, refl, taps_none a.mode (length a.row.now) a.taps.now a.c a.d a.v a.row.now)
+
+-- what a turn adds leaves room
+room : (c : the_In-loop-j) →
+    let a = c.args in
+    total c.loop-j.row + a.v * get_or a.taps.now c.loop-j.j 0 ≤ total a.row.now + a.v * sum a.taps.now
+room c =
+    let l = c.loop-j in
+    let a = c.args in
+    taps_room a.mode (length a.row.now) a.taps.now a.c a.d a.v a.row.now l.row l.j (omega arith) l.invariant.2
+
+pub overflow_add-c : goal.overflow_add-c
+overflow_add-c c = omega (arith, c.requires.far)
+
+pub overflow_mul-v : goal.overflow_mul-v
+overflow_mul-v c =
+    omega (arith, room c.before.before.before, c.requires.room)
+
+pub add_tap-requires : goal.add_tap-requires
+add_tap-requires c = let l = c.loop-j in record { fact_1 = record {
+        s_low = omega (arith, l.invariant.1, c.requires.sized.low);
+        s_high = omega (arith, l.invariant.1, c.requires.sized.high);
+        c_high = omega (arith, c.requires.far);
+        d_high = c.requires.near;
+      }; fact_2 = omega (arith, room c.before.before.before, c.requires.room) }
+
+pub loop-j-preserved : goal.loop-j-preserved
+loop-j-preserved c =
+    let call = c.add_tap in
+    let l = c.loop-j in
+    let a = c.args in
+    let m = a.v * get_or a.taps.now l.j 0 in (
+      omega arith,
+      call.auto.0 ∙ l.invariant.1,
+      taps_more a.mode (length a.row.now) a.taps.now a.c a.d a.v a.row.now l.row call.new.0 l.j l.invariant.2
+          (subst (λ (s : ℕ). Gained l.row call.new.0 (λ t. m * sample a.mode s t (a.c + l.j) a.d)) l.invariant.1 call.ensures),
+    )
+
+pub returns : goal.returns
+unfolding tap_sum
+returns c t =
+    let l = c.loop-j in
+    let a = c.args in
+    let e : l.j ≡ length a.taps.now = omega arith in
+    rw e at (l.invariant.2 t)
+
+pub shape_of-row : goal.shape_of-row
+shape_of-row c = c.loop-j.invariant.1

@@ -1,0 +1,43 @@
+-- The pixels read are the bytes of the taps.
+use mathlib.Core.Path.{◌≡◌, ap, ◌∙◌}
+use Prim.Native.Nat.{ℕ, ◌+◌}
+use native.Mathlib.Nat.{add-zero}
+use native.Mathlib.Omega.{arith}
+use lib.ListN.{get_or}
+use Rattle.picture.proofs.Spans.{span_same}
+use Rattle.pixels.specs.Pixels.{pixel_from}
+use Rattle.blend.specs.Blend.{weighed}
+use Rattle.blend.proofs.Pixels.{bytes_made}
+use Rattle.blend.proofs.blend_pixel.Goals as goal
+use Rattle.blend.proofs.blend_pixel.Goals.{Start}
+use Rattle.blend.proofs.blend_pixel.Lts as lts
+use Rattle.blend.proofs.blend_pixel.Reads as reads
+use Rattle.blend.proofs.blend_pixel.Tie as tie
+
+abbrev the_After-read_pixel-s : Type 0
+the_After-read_pixel-s = lts.After-read_pixel4 tie.the-claims reads.Pre reads.Post
+
+-- where the function starts, from the last pixel read
+abbrev begin : the_After-read_pixel-s → Start
+begin r = r.before.before.before.before.before.before.before.before.before.before
+
+pub overflow_add-start-4 : goal.overflow_add-start-4
+overflow_add-start-4 c =
+    omega (arith, c.requires.d_ends, c.well_formed)
+
+pub weigh_pixels-requires : goal.weigh_pixels-requires
+weigh_pixels-requires c = c.requires.weights
+
+pub write_pixel-requires : goal.write_pixel-requires
+write_pixel-requires c = omega (arith, c.requires.o_ends)
+
+pub returns : goal.returns
+returns c =
+    let a = c.args in
+    let t = a.t in
+    let first : (o : ℕ) → pixel_from a.src.now (a.start + o + 0) ≡ pixel_from a.src.now (a.start + o) = λ o. ap (pixel_from a.src.now) (add-zero (a.start + o)) in
+    let from : ℕ → ℕ → ℕ = λ o k. get_or a.src.now (a.start + o + k) 0 in
+    let here : a.o + 0 ≡ a.o = omega arith in
+    span_same (rw here at c.write_pixel.ensures)
+    (λ k _ l.
+    bytes_made (weighed t.wa t.wb t.wc t.wd) (from t.a) (from t.b) (from t.c) (from t.d) (c.read_pixel-p.ensures ∙ first t.a) (c.read_pixel-q.ensures ∙ first t.b) (c.read_pixel-r.ensures ∙ first t.c) (c.read_pixel-s.ensures ∙ first t.d) c.weigh_pixels.ensures k l)

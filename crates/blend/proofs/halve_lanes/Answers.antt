@@ -1,0 +1,54 @@
+-- The four elements blended are halving's samples.
+use mathlib.Core.Path.{◌∙◌}
+use Prim.Native.Nat.{◌+◌, ◌-◌, ◌*◌, ◌≤◌}
+use native.Mathlib.Omega.{arith}
+use lib.ListN.{length}
+use Rattle.picture.proofs.Spans.{within, span_same}
+use Rattle.edges.specs.declared.At.TheVariants.{Inside}
+use Rattle.passes.specs.Passes.{halve}
+use Rattle.passes.specs.Written.{lane}
+use Rattle.passes.proofs.Written.{element_made}
+use Rattle.blend.proofs.Tapped.{element_ends, taps_fit, taps_mix, taps_room}
+use Rattle.blend.proofs.Outputs.{halved_inside}
+use Rattle.blend.proofs.halve_lanes.Goals as goal
+use Rattle.blend.proofs.halve_lanes.Goals.{Start}
+
+-- the output lies within the buffer
+room : (st : Start) → st.args.o + st.args.x * st.args.stride + st.args.stride ≤ length st.args.dst.now
+room st = omega (arith, within st.args.o st.args.stride st.args.x (st.args.x + 1) (omega arith), st.requires.2.dst_ends)
+
+pub taps_of-t-requires : goal.taps_of-t-requires
+taps_of-t-requires c =
+    let at = 2 * c.args.x in
+    omega (arith, element_ends c.requires.2 (at - 1) (omega arith), element_ends c.requires.2 at (omega arith), element_ends c.requires.2 (at + 1) (omega arith), element_ends c.requires.2 (at + 2) (omega arith))
+
+pub blend_lanes-requires : goal.blend_lanes-requires
+blend_lanes-requires c =
+    let st = c.before.before.before.before.before in
+    let a = c.args in
+    let at = 2 * a.x in
+    taps_room
+    (taps_fit (Inside (at - 1)) (Inside at) (Inside (at + 1)) (Inside (at + 2)) a.stride c.taps_of-t.ensures a.len (omega arith) (omega arith) (omega arith) (omega arith) (omega arith))
+    c.requires.2.src_ends
+    (room st)
+
+pub shape_of-dst : goal.shape_of-dst
+shape_of-dst c = c.blend_lanes.auto.1.1.1.1.0
+
+pub returns : goal.returns
+returns c =
+    let a = c.args in
+    let src = a.src.now in
+    let at = 2 * a.x in
+    λ mode.
+    element_made (halve mode) src a.start a.len a.stride a.x
+    (span_same c.blend_lanes.ensures
+    (λ k _ _.
+    taps_mix (Inside (at - 1)) (Inside at) (Inside (at + 1)) (Inside (at + 2)) a.stride c.taps_of-t.ensures src a.start k
+    ∙ halved_inside mode a.len a.x (lane src a.start a.stride k) c.requires.0 c.requires.1))
+
+pub overflow_mul-x : goal.overflow_mul-x
+overflow_mul-x c = omega (arith, room c.before.before.before.before.before)
+
+pub overflow_add-o : goal.overflow_add-o
+overflow_add-o c = omega (arith, room c.before.before.before.before.before)

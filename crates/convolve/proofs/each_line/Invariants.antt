@@ -1,0 +1,13 @@
+-- Each turn makes one line more, in the part of dst that it is lent.
+use mathlib.Core.Path.{◌≡◌}
+use Prim.Native.Nat.{◌-◌, ◌≤◌}
+use lib.ListN.{length}
+use Rattle.passes.specs.Passes.{convolve}
+use Rattle.passes.proofs.Written.{Lined}
+use Rattle.convolve.proofs.each_line.Given as goal
+
+abbrev pub invariant-loop-y : goal.invariant-loop-y
+invariant-loop-y l = (l.y ≤ l.lines) × (length l.line ≡ length l.initial.line) × Lined (convolve l.mode l.weights) l.src l.len l.len l.stride l.initial.dst l.dst l.y
+
+abbrev pub decreases-loop-y : goal.decreases-loop-y
+decreases-loop-y l = l.lines - l.y

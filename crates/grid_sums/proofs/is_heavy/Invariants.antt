@@ -1,0 +1,12 @@
+-- What has been summed and what is left make the whole sum; it stops where it is above 65536.
+use mathlib.Core.Path.{◌≡◌}
+use Prim.Native.Nat.{◌+◌, ◌-◌, ◌≤◌}
+use lib.ListN.{length, drop}
+use Rattle.binary32.specs.Grid.{sum}
+use Rattle.grid_sums.proofs.is_heavy.Given as goal
+
+abbrev pub invariant-loop-i : goal.invariant-loop-i
+invariant-loop-i l = (l.i ≤ length l.numerators) × (l.total ≤ 65536) × (l.total + sum (drop l.i l.numerators) ≡ sum l.numerators)
+
+abbrev pub decreases-loop-i : goal.decreases-loop-i
+decreases-loop-i l = length l.numerators - l.i

@@ -1,0 +1,14 @@
+use mathlib.Core.Path.{refl}
+use Prim.Native.Nat.{◌-◌}
+use native.Mathlib.Omega.{arith}
+use Rattle.picture.proofs.Spans.{span_none, span_more, span_ends}
+use Rattle.halves.proofs.apart.lay_bytes.Goals as goal
+
+pub loop-k-init : goal.loop-k-init
+loop-k-init c = (omega arith, span_none (omega arith))
+
+pub loop-k-preserved : goal.loop-k-preserved
+loop-k-preserved c = (omega arith, span_more c.loop-k.invariant.1 (omega arith) (omega arith) refl refl)
+
+pub returns : goal.returns
+returns c = span_ends c.loop-k.invariant.1 refl (omega arith)

@@ -1,0 +1,20 @@
+use mathlib.Core.Path.{refl}
+use Prim.Native.Nat.{◌-◌}
+use native.Mathlib.Omega.{arith}
+use lib.Ieee.{of_bits}
+use Rattle.picture.proofs.Spans.{span_none, span_more, span_ends}
+use Rattle.lanes.proofs.clear.Goals as goal
+
+pub loop-i-preserved : goal.loop-i-preserved
+unfolding of_bits
+loop-i-preserved c =
+    (omega arith, span_more c.loop-i.invariant.1 (omega arith) (omega arith) refl refl)
+
+pub loop-i-init : goal.loop-i-init
+loop-i-init c = (omega arith, span_none (omega arith))
+
+pub shape_of-line : goal.shape_of-line
+shape_of-line c = c.loop-i.invariant.1.size
+
+pub returns : goal.returns
+returns c = span_ends c.loop-i.invariant.1 refl (omega arith)

@@ -1,0 +1,26 @@
+-- Each way out is one test of the definition.
+use borrow.Author.Tests.{lt-ltb, le-ltb}
+use Rattle.pam_format.specs.Header.{digit_count}
+use Rattle.pam_format.proofs.digits.Goals as goal
+
+pub returns-then-n-lt10 : goal.returns-then-n-lt10
+unfolding digit_count
+returns-then-n-lt10 c = rw (lt-ltb _ _ c.if-n-lt10.true)
+
+pub returns-then-n-lt100 : goal.returns-then-n-lt100
+unfolding digit_count
+returns-then-n-lt100 c = rw (le-ltb _ _ c.if-n-lt10.false, lt-ltb _ _ c.if-n-lt100.true)
+
+pub returns-then-n-lt1000 : goal.returns-then-n-lt1000
+unfolding digit_count
+returns-then-n-lt1000 c = rw (le-ltb _ _ c.if-n-lt10.false, le-ltb _ _ c.if-n-lt100.false, lt-ltb _ _ c.if-n-lt1000.true)
+
+pub returns-then-n-lt10000 : goal.returns-then-n-lt10000
+unfolding digit_count
+returns-then-n-lt10000 c =
+    rw (le-ltb _ _ c.if-n-lt10.false, le-ltb _ _ c.if-n-lt100.false, le-ltb _ _ c.if-n-lt1000.false, lt-ltb _ _ c.if-n-lt10000.true)
+
+pub returns-else-n-lt10000 : goal.returns-else-n-lt10000
+unfolding digit_count
+returns-else-n-lt10000 c =
+    rw (le-ltb _ _ c.if-n-lt10.false, le-ltb _ _ c.if-n-lt100.false, le-ltb _ _ c.if-n-lt1000.false, le-ltb _ _ c.if-n-lt10000.false)

@@ -1,0 +1,6 @@
+-- The four bytes are the pixel's channels.
+use native.Mathlib.Nat.{add-zero}
+use Rattle.pixels.proofs.pixel_at.Goals as goal
+
+pub returns : goal.returns
+returns c = rw add-zero

@@ -1,0 +1,14 @@
+-- The first i pixels of the planes lie over the shadow's, and the others are as they were.
+use Prim.Native.Nat.{◌-◌}
+use lib.ListN.{get_or}
+use Rattle.composite.specs.Channels.{over}
+use Rattle.composite.specs.Plane.{tinted_by}
+use Rattle.plane_shadow.specs.Places.{channel_in}
+use Rattle.plane_shadow.proofs.Laying.{Laying}
+use Rattle.plane_shadow.proofs.lay_planes.Given as goal
+
+abbrev pub invariant-loop-i : goal.invariant-loop-i
+invariant-loop-i l = Laying l.n (λ j c. over (channel_in l.n l.initial.planes j c) (tinted_by l.tint (get_or l.alphas j 0) c) (channel_in l.n l.initial.planes j 3)) l.initial.planes l.planes l.i
+
+abbrev pub decreases-loop-i : goal.decreases-loop-i
+decreases-loop-i l = l.n - l.i

@@ -1,0 +1,12 @@
+-- Each way out is one case of the definition.
+use mathlib.Core.Path.{◌∙◌, sym}
+use Rattle.plate_numbers.specs.Numbers.{largest_whole}
+use Rattle.plate_numbers.proofs.largest_whole.Goals as goal
+
+pub returns-then-larger : goal.returns-then-larger
+unfolding largest_whole
+returns-then-larger c = rw (sym c.larger.ensures ∙ c.if-larger.true)
+
+pub returns-else-larger : goal.returns-else-larger
+unfolding largest_whole
+returns-else-larger c = rw (sym c.larger.ensures ∙ c.if-larger.false)

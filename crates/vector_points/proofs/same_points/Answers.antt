@@ -1,0 +1,16 @@
+use Prim.Native.Nat.{◌-◌}
+use native.Mathlib.Omega.{arith}
+use Rattle.vector_buffers.proofs.Pairs.{differ, told_not, told_so, alike_none, alike_more, alike_all}
+use Rattle.vector_points.proofs.same_points.Goals as goal
+
+pub returns-then-not-same_point : goal.returns-then-not-same_point
+returns-then-not-same_point c = differ c.loop-i.i [] (told_not c.same_point.ensures c.if-not-same_point.true)
+
+pub loop-i-preserved : goal.loop-i-preserved
+loop-i-preserved c = alike_more c.loop-i.invariant [] (omega arith) (omega arith) (told_so c.same_point.ensures c.if-not-same_point.false)
+
+pub loop-i-init : goal.loop-i-init
+loop-i-init c = alike_none
+
+pub returns : goal.returns
+returns c = alike_all c.loop-i.invariant (omega arith) (omega arith)

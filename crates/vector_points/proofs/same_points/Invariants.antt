@@ -1,0 +1,11 @@
+-- The first i points are the same.
+use Prim.Native.Nat.{◌-◌}
+use lib.ListN.{length}
+use Rattle.vector_buffers.proofs.Pairs.{Alike}
+use Rattle.vector_points.proofs.same_points.Given as goal
+
+abbrev pub invariant-loop-i : goal.invariant-loop-i
+invariant-loop-i l = Alike l.a l.b l.i
+
+abbrev pub decreases-loop-i : goal.decreases-loop-i
+decreases-loop-i l = length l.a - l.i
