@@ -28,7 +28,7 @@ pub record Within (k n channel exact : ℕ) : Type 0 where
 
 -- weights on the grid, with numerators that sum to at most 65536
 pub record GridKernel (weights : List Float) : Type 0 where
-  pub on_grid_lem : all_on_grid weights ≡ true
+  pub on_grid : all_on_grid weights ≡ true
   pub fits : sum (numerators weights) ≤ 65536
 
 -- every channel c of every pixel x, y of a picture is near the exact blur of p

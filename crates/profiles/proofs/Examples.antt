@@ -27,7 +27,7 @@ use Rattle.profiles.specs.Same.{WeightsOf}
 -- minus zero and 1
 pub minus_zero : WeightsOf (0 ∷ 65536 ∷ []) (fin true 0 (pos 0) ∷ one32 ∷ [])
 unfolding all_on_grid any_of on_grid numerator outside_unit is_nan lt
-minus_zero = record { on_grid_lem = refl; are = refl }
+minus_zero = record { on_grid = refl; are = refl }
 
 -- one pixel of 255 in each channel
 abbrev white : List ℕ

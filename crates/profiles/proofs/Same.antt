@@ -45,12 +45,12 @@ same_as_float ms weights those fits mode n w h p bytes =
     painted_same w h _ _
     (λ c x y _ _ _.
     (blur_carries Alike mode (alike_sampled mode) alike_eighths _ _
-    (rw those.are at (alike_convolve mode weights (record { on_grid_lem = those.on_grid; fits = rw those.are fits })))
+    (rw those.are at (alike_convolve mode weights (record { on_grid = those.on_grid; fits = rw those.are fits })))
     n w h _ _ (λ u v. (refl, bytes _)) x y).0)
 
 pub whole_near_exact : WholeNearExact
 whole_near_exact ms fits mode n w h p bytes c x y lc lx ly =
     let those = have_weights ms fits in
-    let near = near_exact mode (map weight_on_grid ms) (record { on_grid_lem = those.on_grid; fits = rw those.are fits }) n w h p bytes c x y lc lx ly in
+    let near = near_exact mode (map weight_on_grid ms) (record { on_grid = those.on_grid; fits = rw those.are fits }) n w h p bytes c x y lc lx ly in
     rw (same_as_float ms (map weight_on_grid ms) those fits mode n w h p bytes)
     (subst (λ (k : List ℕ). Within (steps_of n) n (chan (blurred mode (map weight_on_grid ms) n w h p) w c x y) (exact_blur mode k n w h (chan p w c) x y)) those.are near)

@@ -22,11 +22,11 @@ weight_on m l = grid_of (weight_on_grid m) m l (value→is (weight_on_grid m) m 
 
 pub have_weights : HaveWeights
 unfolding all_on_grid any_of sum
-have_weights [] l = record { on_grid_lem = refl; are = refl }
+have_weights [] l = record { on_grid = refl; are = refl }
 have_weights (m ∷ ms) l =
     let one = weight_on m (omega arith) in
     let more = have_weights ms (omega arith) in
-    record { on_grid_lem = rw one.0 more.on_grid; are = rw (one.1, more.are) }
+    record { on_grid = rw one.0 more.on_grid; are = rw (one.1, more.are) }
 
 -- check 5 lets every weight on the grid through
 pub grid_inside : (ws : List Float) → all_on_grid ws ≡ true → any_outside ws ≡ false

@@ -15,7 +15,7 @@ use Rattle.whole_blur.specs.Outcome.{whole_outcome}
 
 -- those weights: any on the grid whose numerators these are, minus zero for 0 too
 pub record WeightsOf (ms : List ℕ) (weights : List Float) : Type 0 where
-  pub on_grid_lem : all_on_grid weights ≡ true
+  pub on_grid : all_on_grid weights ≡ true
   pub are : numerators weights ≡ ms
 
 -- m / 65536 in binary32
