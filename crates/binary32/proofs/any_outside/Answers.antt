@@ -1,4 +1,4 @@
-use Rattle.std.proofs.Common.{◌≡◌, ◌+◌, ◌-◌, ◌||◌, drop, sym, refl, ◌∙◌, arith, drop_of_length-le}
+use Rattle.std.proofs.Common.{◌≡◌, ◌+◌, ◌||◌, drop, sym, refl, ◌∙◌, arith, drop_of_length-le}
 use Rattle.binary32.specs.Ranges.{any_of, outside_unit, any_outside}
 use Rattle.binary32.proofs.Ranges.{any_step}
 use Rattle.binary32.proofs.any_outside.Goals as goal

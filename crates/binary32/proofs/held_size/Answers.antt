@@ -13,7 +13,9 @@ fit c = subst T (sym c.well_formed.0.1) tt
 
 pub truncating_f32_to_u64-twice-requires : goal.truncating_f32_to_u64-twice-requires
 unfolding of_bits
-truncating_f32_to_u64-twice-requires c = cut_asks c.args.x (fit c.before) c.requires.fact_1 c.if-x.true
+truncating_f32_to_u64-twice-requires c =
+    let asks = cut_asks c.args.x (fit c.before) c.requires.fact_1 c.if-x.true in
+    record { lower_bound = asks.0; upper_bound = asks.1 }
 
 -- what the cut found
 found : (c : After-truncating_f32_to_u64-twice) →

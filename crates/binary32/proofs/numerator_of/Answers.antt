@@ -18,7 +18,10 @@ in-range c = sym c.outside_unit.ensures ∙ c.if-outside_unit.false
 
 pub truncating_f32_to_u64-whole-requires : goal.truncating_f32_to_u64-whole-requires
 unfolding of_bits
-truncating_f32_to_u64-whole-requires c = let s = c.before.before in (part_cut c.args.x (fit s) (in-range c)).0
+truncating_f32_to_u64-whole-requires c =
+    let s = c.before.before in
+    let asks = (part_cut c.args.x (fit s) (in-range c)).0 in
+    record { lower_bound = asks.0; upper_bound = asks.1 }
 
 -- what the cut found
 found : (c : After-truncating_f32_to_u64-whole) → let n = c.truncating_f32_to_u64-whole.result in (n ≡ part c.args.x) × (n ≤ 65536)

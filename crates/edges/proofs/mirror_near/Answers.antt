@@ -17,5 +17,5 @@ pub returns-else-c-d : goal.returns-else-c-d
 returns-else-c-d c l =
     let a = c.args in
     let r = c.wrapping_sub_usize.result in
-    let e = small_difference (a.d + 2 * a.s - 1) a.c r a.s c.wrapping_sub_usize.ensures l (omega arith) (omega arith) in
+    let e = small_difference (a.d + 2 * a.s - 1) a.c r a.s c.wrapping_sub_usize.ensures.value l (omega arith) (omega arith) in
     place_back a.s a.c a.d r 0 0 l (omega arith)
