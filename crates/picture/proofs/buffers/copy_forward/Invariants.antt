@@ -1,5 +1,5 @@
 -- The last bytes, from i on, are copied, each read before it was overwritten, and the rest is as it was.
-use Prim.Native.Nat.{◌-◌, ◌≤◌}
+use Prim.Native.Nat.{◌≤◌}
 use Rattle.picture.specs.Buffers.{line_from}
 use Rattle.picture.specs.Spans.{Span}
 use Rattle.picture.proofs.buffers.copy_forward.Given as goal
