@@ -40,8 +40,8 @@ unfolding nan_bits
 past b h =
     rw (eq-eqb (b % 2147483648 / 8388608) 255 (omega arith), ne_eqb (b % 8388608) 0 (λ e. let z : ⊥ = omega arith in z))
 
-pub is_nan : (b : ℕ) → 2139095040 < b % 2147483648 → nan ≡ of_bits binary32 b
-is_nan b h = nan_only (of_bits binary32 b) (sym (nan_bits_is binary32 b) ∙ past b h)
+pub a_nan : (b : ℕ) → 2139095040 < b % 2147483648 → nan ≡ of_bits binary32 b
+a_nan b h = nan_only (of_bits binary32 b) (sym (nan_bits_is binary32 b) ∙ past b h)
 
 -- and no other
 pub no_nan : (b : ℕ) → b % 2147483648 ≤ 2139095040 → nan_bits binary32 b ≡ false

@@ -4,7 +4,7 @@ use borrow.Author.Tests.{lt-ltb, le-ltb}
 use Rattle.vector_values.proofs.head.length.Goals as goal
 
 pub returns-then-n-gt-LONGEST : goal.returns-then-n-gt-LONGEST
-returns-then-n-gt-LONGEST c = (rw (← c.number-n.ensures, lt-ltb _ _ c.if-n-gt-LONGEST.true), omega arith)
+returns-then-n-gt-LONGEST c = record { value = rw (← c.number-n.ensures, lt-ltb _ _ c.if-n-gt-LONGEST.true); upper_bound = omega arith }
 
 pub returns-else-n-gt-LONGEST : goal.returns-else-n-gt-LONGEST
-returns-else-n-gt-LONGEST c = (rw (← c.number-n.ensures, le-ltb _ _ c.if-n-gt-LONGEST.false), omega arith)
+returns-else-n-gt-LONGEST c = record { value = rw (← c.number-n.ensures, le-ltb _ _ c.if-n-gt-LONGEST.false); upper_bound = omega arith }

@@ -1,5 +1,4 @@
 use mathlib.Core.Path.{refl}
-use Prim.Native.Nat.{◌-◌}
 use native.Mathlib.Omega.{arith}
 use Rattle.vector_values.proofs.Numerals.{past_line, line_more, line_stops}
 use Rattle.vector_values.proofs.text.line_end.Goals as goal
@@ -9,7 +8,7 @@ loop-i-init c = (omega arith, omega arith, refl)
 
 pub returns-then-text-i-eq10 : goal.returns-then-text-i-eq10
 returns-then-text-i-eq10 c =
-    (omega (arith, line_stops c.args.text.now c.loop-i.i (omega arith) c.if-text-i-eq10.true), (omega arith, omega arith))
+    record { value = omega (arith, line_stops c.args.text.now c.loop-i.i (omega arith) c.if-text-i-eq10.true); lower_bound = (omega arith, omega arith) }
 
 pub loop-i-preserved : goal.loop-i-preserved
 loop-i-preserved c =
