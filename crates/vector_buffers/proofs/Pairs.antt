@@ -1,11 +1,11 @@
 -- Pairs that are the same, and lists that are compared from the front.
 use mathlib.Core.Path.{◌≡◌, refl, ap, ◌∙◌, sym}
-use mathlib.Core.Bool.{Bool, true, false, not, false≢true}
+use mathlib.Core.Bool.{Bool, true, false, false≢true}
 use mathlib.Core.List.{List, [], ◌∷◌}
 use Prim.Native.Nat.{ℕ, ◌+◌, ◌≤◌, ◌<◌}
 use native.Mathlib.Numerals.{add-one}
 use native.Mathlib.Omega.{arith}
-use borrow.Author.Tests.{eqb-true, eq-eqb, not-true, not-false}
+use borrow.Author.Tests.{eqb-true, eq-eqb}
 use lib.Dec.{eqb}
 use lib.ListN.{length, get_or, take}
 use lib.Seq.{take-suc, take-length}
@@ -31,11 +31,11 @@ pair_told p q h k e = ((λ t. pair_same p q h k e (eqb-true _ _ t)), (λ f. eq-e
 
 -- what a test that is turned round says
 module _ {r : Bool} {fact : Type 0} (told : tells r fact) where
-  pub told_not : not r ≡ true → fact → ⊥
-  told_not h f = absurd (false≢true (sym (not-true r h) ∙ told.1 f))
+  pub told_not : r ≡ false → fact → ⊥
+  told_not h f = absurd (false≢true (sym h ∙ told.1 f))
 
-  pub told_so : not r ≡ false → fact
-  told_so h = told.0 (not-false r h)
+  pub told_so : r ≡ true → fact
+  told_so h = told.0 h
 
 -- the first i elements of two lists are the same
 pub record Alike {A : Type 0} (a b : List A) (i : ℕ) : Type 0 where
