@@ -1,5 +1,4 @@
 use mathlib.Core.Path.{◌≡◌}
-use mathlib.Core.List.{List}
 use Prim.Native.Nat.{ℕ, ◌+◌, ◌*◌, ◌-◌, ◌≤◌}
 use native.Mathlib.Nat.{add-mul, one-mul}
 use native.Mathlib.Omega.{arith}
@@ -9,19 +8,11 @@ use Rattle.picture.proofs.Spans.{scale, within, span_same, span_join, span_eleme
 use Rattle.passes.specs.Passes.{double}
 use Rattle.passes.specs.Written.{lane}
 use Rattle.passes.proofs.Written.{element_made}
-use Rattle.blend.specs.Blend.{mix}
 use Rattle.blend.proofs.Tapped.{element_ends}
 use Rattle.blend.proofs.Outputs.{odd_inside, even_inside}
 use Rattle.blend.proofs.Pairs.{pair_none, pair_more, pair_size}
 use Rattle.blend.proofs.double_lanes.Goals as goal
 use Rattle.blend.proofs.double_lanes.Goals.{Start}
-
--- lane k of the two outputs between elements x and x + 1
-abbrev odd : List ℕ → ℕ → ℕ → ℕ → ℕ → ℕ
-odd src start stride x k = let line = lane src start stride k in mix (line (x + 1)) (line x) (line x) (line (x + 1))
-
-abbrev even : List ℕ → ℕ → ℕ → ℕ → ℕ → ℕ
-even src start stride x k = let line = lane src start stride k in mix (line x) (line (x + 1)) (line (x + 1)) (line x)
 
 -- the second output follows the first
 next : (x stride : ℕ) → (2 * x + 1) * stride + stride ≡ (2 * x + 2) * stride

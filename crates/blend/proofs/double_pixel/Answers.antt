@@ -16,7 +16,7 @@ write_pixel-requires-2 c = omega (arith, c.before.before.before.before.before.be
 
 pub shape_of-dst : goal.shape_of-dst
 shape_of-dst c =
-    c.write_pixel-2.auto.0 ∙ c.write_pixel.auto.0
+    c.write_pixel-2.auto.dst ∙ c.write_pixel.auto.dst
 
 pub returns : goal.returns
 returns c =

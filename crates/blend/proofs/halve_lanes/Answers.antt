@@ -33,7 +33,7 @@ blend_lanes-requires c =
     (room st)
 
 pub shape_of-dst : goal.shape_of-dst
-shape_of-dst c = c.blend_lanes.auto.1.1.1.1.0
+shape_of-dst c = c.blend_lanes.auto.dst
 
 pub returns : goal.returns
 returns c =

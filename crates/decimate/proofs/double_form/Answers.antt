@@ -8,12 +8,12 @@ pub resize_form-requires : goal.resize_form-requires
 resize_form-requires c = rw c.half.ensures (doubling c.requires)
 
 pub shape_of-picture : goal.shape_of-picture
-shape_of-picture c = c.resize_form.auto.0
+shape_of-picture c = c.resize_form.auto.picture
 
 pub shape_of-scratch : goal.shape_of-scratch
-shape_of-scratch c = c.resize_form.auto.1.0
+shape_of-scratch c = c.resize_form.auto.scratch
 
 pub returns : goal.returns
 returns c =
-    sym (whole (form_bytes c.args.form c.args.s.w c.args.s.h) c.resize_form.new.0 (c.resize_form.auto.0 ∙ c.requires.picture_length))
+    sym (whole (form_bytes c.args.form c.args.s.w c.args.s.h) c.resize_form.new.picture (c.resize_form.auto.picture ∙ c.requires.picture_length))
     ∙ rw c.half.ensures at c.resize_form.ensures

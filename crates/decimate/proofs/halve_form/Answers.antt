@@ -10,10 +10,10 @@ pub resize_form-requires : goal.resize_form-requires
 resize_form-requires c = rw c.half.ensures (halving c.requires)
 
 pub shape_of-picture : goal.shape_of-picture
-shape_of-picture c = c.resize_form.auto.0
+shape_of-picture c = c.resize_form.auto.picture
 
 pub shape_of-scratch : goal.shape_of-scratch
-shape_of-scratch c = c.resize_form.auto.1.0
+shape_of-scratch c = c.resize_form.auto.scratch
 
 pub returns : goal.returns
 returns c =

@@ -7,11 +7,11 @@ use Rattle.resize.proofs.Outputs.{line_lies, parts_none, parts_more, run_from_le
 use Rattle.resize.proofs.blend_ends.Goals as goal
 use Rattle.resize.proofs.blend_ends.Goals.{Start}
 use Rattle.resize.proofs.blend_ends.Lts as lts
-use Rattle.resize.proofs.blend_ends.Reads as reads
+use Rattle.resize.proofs.blend_ends.Reads as given
 use Rattle.resize.proofs.blend_ends.Tie as tie
 
 abbrev the_In-loop-y : Type 0
-the_In-loop-y = lts.In-loop tie.the-claims reads.Pre reads.Post goal.the-invariant-loop-y goal.the-decreases-loop-y
+the_In-loop-y = lts.In-loop tie.the-claims given.Pre given.Post goal.the-invariant-loop-y goal.the-decreases-loop-y
 
 -- a line of those lies within src, and what it becomes within dst
 module _ (st : Start) (y : ℕ) (l : y < st.args.lines) where

@@ -10,11 +10,11 @@ use Rattle.resize.proofs.Outputs.{line_lies, parts_none, parts_more}
 use Rattle.resize.proofs.inner_lines.Goals as goal
 use Rattle.resize.proofs.inner_lines.Goals.{Start}
 use Rattle.resize.proofs.inner_lines.Lts as lts
-use Rattle.resize.proofs.inner_lines.Reads as reads
+use Rattle.resize.proofs.inner_lines.Reads as given
 use Rattle.resize.proofs.inner_lines.Tie as tie
 
 abbrev the_In-loop-y : Type 0
-the_In-loop-y = lts.In-loop tie.the-claims reads.Pre reads.Post goal.the-invariant-loop-y goal.the-decreases-loop-y
+the_In-loop-y = lts.In-loop tie.the-claims given.Pre given.Post goal.the-invariant-loop-y goal.the-decreases-loop-y
 
 module _ (st : Start) where
   -- how many outputs there are, and that those inside are no more
@@ -53,7 +53,7 @@ loop-y-preserved c =
     let s = start t in
     let stride = c.args.stride in (
       omega arith,
-      c.resize_inner.auto.1.1.1.1.0 ∙ c.loop-y.invariant.1,
+      c.resize_inner.auto.dst ∙ c.loop-y.invariant.1,
       λ mode.
           parts_more c.loop-y.y (omega (arith, scale 0 stride 1 _ (many s).some, one-mul stride)) (inside s) (c.loop-y.invariant.2 mode) (span_ends (c.resize_inner.ensures mode) (one-mul stride) refl),
     )

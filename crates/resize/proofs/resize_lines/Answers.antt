@@ -11,14 +11,14 @@ use Rattle.resize.proofs.Outputs.{line_lies, last_ends, lines_made}
 use Rattle.resize.proofs.resize_lines.Goals as goal
 use Rattle.resize.proofs.resize_lines.Goals.{Start}
 use Rattle.resize.proofs.resize_lines.Lts as lts
-use Rattle.resize.proofs.resize_lines.Reads as reads
+use Rattle.resize.proofs.resize_lines.Reads as given
 use Rattle.resize.proofs.resize_lines.Tie as tie
 
 abbrev the_After-slice_known-1 : Type 0
-the_After-slice_known-1 = lts.After-slice_known tie.the-claims reads.Pre reads.Post
+the_After-slice_known-1 = lts.After-slice_known tie.the-claims given.Pre given.Post
 
 abbrev the_After-blend_ends-arg-2-1 : Type 0
-the_After-blend_ends-arg-2-1 = lts.After-blend_ends-arg2 tie.the-claims reads.Pre reads.Post
+the_After-blend_ends-arg-2-1 = lts.After-blend_ends-arg2 tie.the-claims given.Pre given.Post
 
 module _ (st : Start) where
   -- how many outputs there are
