@@ -6,7 +6,7 @@ use mathlib.Core.Logic.{⊎_elim}
 use Prim.Native.Nat.{ℕ, ◌+◌, ◌*◌, ◌/◌, ◌%◌, ◌≤◌, ◌<◌}
 use native.Mathlib.Omega.{arith}
 use native.Mathlib.Nat.{add-mul, mul_assoc, mul_comm, mul-zero, zero-mul, mod-lt, div-lt_iff_lt-mul, div-add-mod', eq-zero-or-pos, mul-le-mul, mul-le-mul_left}
-use lib.ListN.{length, get_or}
+use lib.ListN.{length}
 use Rattle.picture.specs.Planes.{Line, Plane, bytes_of, chan, painted}
 use Rattle.picture.specs.Sizes.{Sides, Sized}
 use Rattle.picture.specs.declared.LevelSize.{LevelSize}
