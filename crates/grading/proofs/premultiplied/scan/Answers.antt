@@ -1,17 +1,17 @@
 use mathlib.Core.Path.{◌≡◌, ◌∙◌, refl, sym, ap, subst}
 use mathlib.Core.List.{List}
-use Prim.Native.Nat.{ℕ, ◌+◌, ◌*◌, ◌-◌, ◌<◌, ◌≤◌}
+use Prim.Native.Nat.{ℕ, ◌+◌, ◌*◌, ◌<◌, ◌≤◌}
 use native.Mathlib.Nat.{zero-mul, add-zero, add_assoc, mul_comm, mul-le-mul_right}
 use native.Mathlib.Omega.{arith}
 use Rattle.picture.specs.Sizes.{Pictured}
 use Rattle.picture.specs.Answer.{Answer, answered}
 use Rattle.pixels.specs.Channels.{exceeds, exceeds_at}
 use Rattle.grading.specs.Premultiplied.{Finding, scanned, finding}
-use Rattle.grading.specs.declared.premultiplied.Checked.{Checked}
 use Rattle.grading.specs.declared.premultiplied.Checked.TheVariants.{Fits}
 use Rattle.grading.proofs.Whole.{inside}
-use Rattle.grading.proofs.Places.{next_row, onward, start, past, stops, ends}
+use Rattle.grading.proofs.Places.{next_row, start, past, stops, ends}
 use Rattle.grading.proofs.premultiplied.scan.Goals as goal
+use Rattle.grading.proofs.premultiplied.scan.Invariants.{Reached}
 use Rattle.grading.proofs.premultiplied.scan.Lts as lts
 use Rattle.grading.proofs.premultiplied.scan.Reads as reads
 use Rattle.grading.proofs.premultiplied.scan.Tie as tie
@@ -24,10 +24,6 @@ the_In-loop-x = lts.In-loop tie.the-claims reads.Pre reads.Post goal.the-invaria
 
 abbrev the_After-exceeds : Type 0
 the_After-exceeds = lts.After-exceeds tie.the-claims reads.Pre reads.Post goal.the-invariant-loop-x goal.the-decreases-loop-x goal.the-invariant-rows goal.the-decreases-rows
-
--- nothing is found before place k
-abbrev Reached : List ℕ → ℕ → ℕ → Checked → ℕ → Type 0
-Reached picture w h found k = (found ≡ Fits) × (scanned picture w h ≡ onward (exceeds_at picture) (w * h) k)
 
 -- what holds of two sides holds of equal ones
 of-sides : (P : ℕ → ℕ → Type 0) {w h w' h' : ℕ} → w ≡ w' → h ≡ h' → P w h → P w' h'
@@ -83,12 +79,12 @@ rows-preserved c =
     let rows = c.before.before.before.before in
     let s = rows.before in
     let next : c.rows.y * wide s + c.loop-x.x ≡ (c.rows.y + 1) * wide s = omega (arith, next_row c.rows.y (wide s)) in
-    (omega arith, subst (Reached (bytes s) (wide s) (high s) c.loop-x.found) next c.loop-x.invariant.1)
+    (omega arith, subst (Reached (bytes s) (wide s) (high s) c.loop-x.found-1) next c.loop-x.invariant.1)
 
 -- what is found is that of the size's sides
 for-size : (c : the_After-height-h) {a : Answer Finding} → a ≡ answered 0 (scanned (bytes c) (wide c) (high c)) →
     let size = c.args.size in a ≡ answered 0 (scanned (bytes c) size.w size.h)
-for-size c {a} = of-sides (λ w h. a ≡ answered 0 (scanned (bytes c) w h)) c.before.width.ensures c.height.ensures
+for-size c {a} = of-sides (λ w h. a ≡ answered 0 (scanned (bytes c) w h)) c.width-w.ensures c.height-h.ensures
 
 pub returns-after-rows : goal.returns-after-rows
 returns-after-rows c =

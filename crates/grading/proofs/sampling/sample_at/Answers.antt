@@ -59,21 +59,21 @@ module _ (c : the_After-extend_signed-row) where
   abbrev begin : Start
   begin = mode.before.before.before.before.before
 
-  across : c.extend_signed-column.result ≡ place_of mode.edge-mode.result begin.args.w (again begin.args.x)
-  across = c.extend_signed-column.ensures ∙ ap (λ (s : ℕ). place_of mode.edge-mode.result s (again begin.args.x)) (wide c.before.before.before)
+  across : c.extend_signed-column.result ≡ place_of mode.edge_mode-mode.result begin.args.w (again begin.args.x)
+  across = c.extend_signed-column.ensures ∙ ap (λ (s : ℕ). place_of mode.edge_mode-mode.result s (again begin.args.x)) (wide c.before.before.before)
 
-  down : c.extend_signed-row.result ≡ place_of mode.edge-mode.result begin.args.h (again begin.args.y)
-  down = c.extend_signed-row.ensures ∙ ap (λ (s : ℕ). place_of mode.edge-mode.result s (again begin.args.y)) (high c.before)
+  down : c.extend_signed-row.result ≡ place_of mode.edge_mode-mode.result begin.args.h (again begin.args.y)
+  down = c.extend_signed-row.ensures ∙ ap (λ (s : ℕ). place_of mode.edge_mode-mode.result s (again begin.args.y)) (high c.before)
 
-  full : mode.before.full_size.result.w ≡ begin.args.w
-  full = ap (λ (s : FullSize). s.w) mode.before.full_size.ensures
+  full : mode.before.full_size-size.result.w ≡ begin.args.w
+  full = ap (λ (s : FullSize). s.w) mode.before.full_size-size.ensures
 
 pub pixel_of-requires : goal.pixel_of-requires
 pixel_of-requires c =
     let st = begin c.before in
     let a = c.args in
     subst (λ (w : ℕ). Held a.picture.now w c.extend_signed-column.result c.extend_signed-row.result) (sym (full c.before))
-    (extended_held a.picture.now a.w a.h c.edge_mode-mode.result a.x a.y st.fits.x st.fits.y (across c.before) (down c.before) (accepts-whole (mode c.before).before.before))
+    (extended_held a.picture.now a.w a.h c.edge_mode-mode.result a.x a.y st.ranges.x st.ranges.y (across c.before) (down c.before) (accepts-whole (mode c.before).before.before))
 
 pub returns : goal.returns
 returns c =
@@ -83,5 +83,5 @@ returns c =
     let known = (mode b).before.before in
     c.pixel_of.ensures
     ∙ ap (λ (w : ℕ). sampled_pixel a.picture.now w c.extend_signed-column.result c.extend_signed-row.result) (full b)
-    ∙ extended_sampled a.picture.now a.w a.h c.edge_mode-mode.result a.x a.y st.fits.x st.fits.y (across b) (down b)
-    a.edge c.edge_mode-mode.ensures (accepted _ _ _ _ known.before.view-refusal.ensures known.if1.left)
+    ∙ extended_sampled a.picture.now a.w a.h c.edge_mode-mode.result a.x a.y st.ranges.x st.ranges.y (across b) (down b)
+    a.edge c.edge_mode-mode.ensures (accepted _ _ _ _ known.view_refusal.ensures known.if-view_refusal-ne0.false)
