@@ -6,7 +6,5 @@ use Rattle.counting.proofs.counter.count_block.Goals as goal
 
 pub returns : goal.returns
 returns c =
-    let packs = c.before.before.before.before.before in
-    let known = packs.before.before in
-    let a = known.before.before.args in
-    c.count_words.ensures ∙ packed_many a.picture.now _ a.from _ (λ i. omega (arith, (c.shared_slice_known-1.given i).fits)) c.pack_pixels.ensures
+    let a = c.args in
+    c.count_words.ensures ∙ packed_many a.picture.now _ a.from _ (λ i. omega (arith, c.type_inv.picture i)) c.pack_pixels.ensures

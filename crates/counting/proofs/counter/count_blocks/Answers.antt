@@ -1,36 +1,31 @@
 use mathlib.Core.Path.{◌≡◌, refl, ◌∙◌}
-use Prim.Native.Nat.{◌+◌, ◌-◌}
+use Prim.Native.Nat.{◌+◌}
 use native.Mathlib.Omega.{arith}
 use Rattle.pixels.specs.Channels.{exceeds_at}
 use Rattle.counting.specs.Counts.{how_many}
 use Rattle.counting.proofs.Counted.{many_le, many_split}
 use Rattle.counting.proofs.counter.count_blocks.Goals as goal
-use Rattle.counting.proofs.counter.count_blocks.Lts as lts
-use Rattle.counting.proofs.counter.count_blocks.Reads as reads
-use Rattle.counting.proofs.counter.count_blocks.Tie as tie
-
-abbrev the_After-count_block : Type 0
-the_After-count_block = lts.After-count_block tie.the-claims reads.Pre reads.Post goal.the-invariant-loop-i goal.the-decreases-loop-i
+use Rattle.counting.proofs.counter.count_blocks.Goals.{After-count_block}
 
 pub loop-i-init : goal.loop-i-init
 unfolding how_many
 loop-i-init c = (omega arith, omega arith, refl, omega arith)
 
 -- with the block
-more : (c : the_After-count_block) →
+more : (c : After-count_block) →
     c.loop-i.count + c.count_block.result ≡ how_many (exceeds_at c.args.picture.now) (c.loop-i.i + 32)
 more c =
     rw (many_split (exceeds_at c.args.picture.now) c.loop-i.i 32, ← c.loop-i.invariant.2, c.count_block.ensures, c.loop-i.invariant.3)
 
 pub overflow_add-count : goal.overflow_add-count
 overflow_add-count c =
-    let call = c.before.before.before in
+    let call = (goal.at.overflow_add-count c).After-count_block in
     omega (arith, more call, many_le (exceeds_at c.args.picture.now) (c.loop-i.i + 32))
 
 pub loop-i-preserved : goal.loop-i-preserved
 loop-i-preserved c =
-    let call = c.before.before.before in
-    (omega arith, omega arith, more call, omega (arith, c.count_block.auto.0, c.loop-i.invariant.3))
+    let call = (goal.at.loop-i-preserved c).After-count_block in
+    (omega arith, omega arith, more call, omega (arith, c.count_block.auto.words, c.loop-i.invariant.3))
 
 pub returns : goal.returns
 returns c =

@@ -6,14 +6,9 @@ use Rattle.pixels.specs.Channels.{exceeds_at}
 use Rattle.counting.specs.Counts.{how_many}
 use Rattle.counting.proofs.Counted.{many_le, many_split}
 use Rattle.counting.proofs.counter.count_exceeding.Goals as goal
-use Rattle.counting.proofs.counter.count_exceeding.Lts as lts
-use Rattle.counting.proofs.counter.count_exceeding.Reads as reads
-use Rattle.counting.proofs.counter.count_exceeding.Tie as tie
+use Rattle.counting.proofs.counter.count_exceeding.Goals.{After-count_rest}
 
-abbrev the_After-last-2-1 : Type 0
-the_After-last-2-1 = lts.After-last2 tie.the-claims reads.Pre reads.Post
-
-both : (c : the_After-last-2-1) →
+both : (c : After-count_rest) →
     let a = c.args in
     c.count_blocks.result + c.count_rest.result ≡ how_many (exceeds_at a.picture.now) a.n
 both c =
@@ -25,7 +20,7 @@ both c =
 pub overflow_add-result : goal.overflow_add-result
 overflow_add-result c =
     let a = c.args in
-    omega (arith, both c.before, many_le (exceeds_at a.picture.now) a.n)
+    omega (arith, both (goal.at.overflow_add-result c).After-count_rest, many_le (exceeds_at a.picture.now) a.n)
 
 pub returns : goal.returns
-returns c = both c.before
+returns c = both (goal.at.returns c).After-count_rest

@@ -17,7 +17,9 @@ pub slice_bounds-count_block-end-2 : goal.slice_bounds-count_block-end-2
 slice_bounds-count_block-end-2 c = sym (size c.before.before.before.before)
 
 pub count_block-requires : goal.count_block-requires
-count_block-requires c = let f = rw (size c.before.before.before.before) (omega arith, omega arith) in record { fact_1 = f.0; fact_2 = f.1 }
+count_block-requires c =
+    let e = size c.before.before.before.before in
+    record { fact_1 = rw e (omega arith); fact_2 = rw e (omega arith) }
 
 pub returns : goal.returns
 returns c =

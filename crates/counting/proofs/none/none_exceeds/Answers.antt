@@ -11,8 +11,8 @@ pub returns-then-n-eq0 : goal.returns-then-n-eq0
 unfolding how_many
 returns-then-n-eq0 c = all_none (exceeds_at c.args.picture.now) {i = 0} (sym c.if-n-eq0.true) refl
 
-pub none-in-default-requires : goal.none-in-default-requires
-none-in-default-requires c = (omega arith, (omega arith, eqb-true _ 0 (sym c.before.none-in-blocks.ensures ∙ c.if2.true)))
+pub none_in_rest-requires : goal.none_in_rest-requires
+none_in_rest-requires c = record { fact_1 = omega arith; fact_2 = omega arith; fact_3 = eqb-true _ 0 (sym c.none_in_blocks.ensures ∙ c.if-none_in_blocks.true) }
 
 pub returns : goal.returns
 returns c =

@@ -1,32 +1,26 @@
 use mathlib.Core.Path.{◌≡◌, sym, ap, ◌∙◌}
-use Prim.Native.Nat.{◌-◌}
 use native.Mathlib.Omega.{arith}
 use Rattle.pixels.specs.Channels.{exceeds, exceeds_at}
 use Rattle.counting.proofs.Counted.{many_more, some_many, all_none}
 use Rattle.counting.proofs.none.none_in_rest.Goals as goal
-use Rattle.counting.proofs.none.none_in_rest.Lts as lts
-use Rattle.counting.proofs.none.none_in_rest.Reads as reads
-use Rattle.counting.proofs.none.none_in_rest.Tie as tie
-
-abbrev the_After-exceeds : Type 0
-the_After-exceeds = lts.After-exceeds tie.the-claims reads.Pre reads.Post goal.the-invariant-loop-i goal.the-decreases-loop-i
+use Rattle.counting.proofs.none.none_in_rest.Goals.{After-exceeds}
 
 pub loop-i-init : goal.loop-i-init
 loop-i-init c = (omega arith, c.requires.fact_3)
 
 -- what the test says of the pixel
-told : (c : the_After-exceeds) → c.exceeds.result ≡ exceeds_at c.args.picture.now c.loop-i.i
+told : (c : After-exceeds) → c.exceeds.result ≡ exceeds_at c.args.picture.now c.loop-i.i
 told c = c.exceeds.ensures ∙ ap exceeds c.pixel_at.ensures
 
 pub returns-then-exceeds : goal.returns-then-exceeds
 returns-then-exceeds c =
     let a = c.args in
-    sym (some_many (exceeds_at a.picture.now) a.n c.loop-i.i (omega arith) (sym (told c.before.before) ∙ c.if-exceeds.true))
+    sym (some_many (exceeds_at a.picture.now) a.n c.loop-i.i (omega arith) (sym (told (goal.at.returns-then-exceeds c).After-exceeds) ∙ c.if-exceeds.true))
 
 pub loop-i-preserved : goal.loop-i-preserved
 loop-i-preserved c =
     let test = exceeds_at c.args.picture.now in
-    (omega arith, many_more test c.loop-i.i ∙ rw (c.loop-i.invariant.1, sym (told c.before.before) ∙ c.if-exceeds.false))
+    (omega arith, many_more test c.loop-i.i ∙ rw (c.loop-i.invariant.1, sym (told (goal.at.loop-i-preserved c).After-exceeds) ∙ c.if-exceeds.false))
 
 pub returns : goal.returns
 returns c =

@@ -1,9 +1,8 @@
 use mathlib.Core.Path.{◌∙◌, ap}
-use Prim.Native.Nat.{◌-◌}
 use native.Mathlib.Omega.{arith}
 use Rattle.picture.specs.declared.Pixel.{Pixel}
 use Rattle.picture.proofs.Filled.{fills_none, fills_more, fills_build}
-use Rattle.pixels.specs.Pixels.{pixel_at, packed}
+use Rattle.pixels.specs.Pixels.{packed}
 use Rattle.counting.proofs.words.pack_pixels.Goals as goal
 
 pub pixel_at-requires : goal.pixel_at-requires
