@@ -9,8 +9,12 @@ use Rattle.binary32.specs.Round.{to_byte}
 use Rattle.lanes.proofs.weigh_group.Goals as goal
 
 pub round_lanes-requires : goal.round_lanes-requires
-round_lanes-requires c = let t = c.before.before.before.before.before in
-    let s = t.before.before.before.before.before.before in record { fact_1 = s.requires.0; fact_2 = omega (arith, c.sums.auto.0, s.requires.1.0); fact_3 = (λ i h. subst (λ (x : Float). T (nonneg x)) (sym (c.sums.ensures i h)) (s.requires.1.1.nonnegative i h)) }
+round_lanes-requires c =
+    record {
+      fact_1 = omega arith;
+      fact_2 = omega arith;
+      fact_3 = λ i h. subst (λ (x : Float). T (nonneg x)) (sym (c.sums.ensures i h)) (c.requires.fact_3.nonnegative i h);
+    }
 
 pub returns : goal.returns
 returns c =
