@@ -16,10 +16,10 @@ use Rattle.block_sums.proofs.convolve_strip.Reads as reads
 use Rattle.block_sums.proofs.convolve_strip.Tie as tie
 
 abbrev the_At-loop-i : Type 0
-the_At-loop-i = lts.At-loop tie.the-claims reads.Pre reads.Post goal.the-invariant-loop-i goal.the-decreases-loop-i
+the_At-loop-i = lts.At-loop tie.the-claims reads.Pre reads.Post tie.handed_clauses goal.the-invariant-loop-i goal.the-decreases-loop-i
 
 abbrev the_In-loop-i : Type 0
-the_In-loop-i = lts.In-loop tie.the-claims reads.Pre reads.Post goal.the-invariant-loop-i goal.the-decreases-loop-i
+the_In-loop-i = lts.In-loop tie.the-claims reads.Pre reads.Post tie.handed_clauses goal.the-invariant-loop-i goal.the-decreases-loop-i
 
 -- where the function starts, from the loop's head
 abbrev start : the_At-loop-i → Start

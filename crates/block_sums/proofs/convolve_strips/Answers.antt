@@ -11,7 +11,7 @@ use Rattle.block_sums.proofs.convolve_strips.Reads as reads
 use Rattle.block_sums.proofs.convolve_strips.Tie as tie
 
 abbrev the_After-least-n : Type 0
-the_After-least-n = lts.After-least tie.the-claims reads.Pre reads.Post goal.the-invariant-loop-from goal.the-decreases-loop-from
+the_After-least-n = lts.After-least tie.the-claims reads.Pre reads.Post tie.handed_clauses goal.the-invariant-loop-from goal.the-decreases-loop-from
 
 pub loop-from-init : goal.loop-from-init
 loop-from-init c = (omega arith, refl, refl, made_none (λ j r. omega arith))

@@ -17,7 +17,7 @@ use Rattle.block_sums.proofs.convolve_whole.Reads as reads
 use Rattle.block_sums.proofs.convolve_whole.Tie as tie
 
 abbrev the_After-fill_whole : Type 0
-the_After-fill_whole = lts.After-fill_whole tie.the-claims reads.Pre reads.Post
+the_After-fill_whole = lts.After-fill_whole tie.the-claims reads.Pre reads.Post tie.handed_clauses
 
 module _ (s : Start) where
   reach : let a = s.args in let k = length a.weights.now in Reach a.len (a.x + (a.m + (k - 1))) (k / 2)

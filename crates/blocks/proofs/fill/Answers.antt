@@ -12,7 +12,7 @@ use Rattle.blocks.proofs.fill.Reads as reads
 use Rattle.blocks.proofs.fill.Tie as tie
 
 abbrev the_In-loop-e : Type 0
-the_In-loop-e = lts.In-loop tie.the-claims reads.Pre reads.Post goal.the-invariant-loop-e goal.the-decreases-loop-e
+the_In-loop-e = lts.In-loop tie.the-claims reads.Pre reads.Post tie.handed_clauses goal.the-invariant-loop-e goal.the-decreases-loop-e
 
 pub loop-e-init : goal.loop-e-init
 loop-e-init c = (omega arith, c.requires.fact_1.0, refl, made_none (λ t r. omega arith))

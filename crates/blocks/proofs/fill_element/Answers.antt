@@ -19,7 +19,7 @@ use Rattle.blocks.proofs.fill_element.Reads as reads
 use Rattle.blocks.proofs.fill_element.Tie as tie
 
 abbrev the_After-widen-arg-1 : Type 0
-the_After-widen-arg-1 = lts.After-widen-arg tie.the-claims reads.Pre reads.Post
+the_After-widen-arg-1 = lts.After-widen-arg tie.the-claims reads.Pre reads.Post tie.handed_clauses
 
 abbrev start : the_After-widen-arg-1 → Start
 start c = c.before.before.before.before.before.before.before

@@ -12,7 +12,7 @@ use Rattle.blocks.proofs.fill_whole.Reads as reads
 use Rattle.blocks.proofs.fill_whole.Tie as tie
 
 abbrev the_After-least-high : Type 0
-the_After-least-high = lts.After-least tie.the-claims reads.Pre reads.Post
+the_After-least-high = lts.After-least tie.the-claims reads.Pre reads.Post tie.handed_clauses
 
 module _ (c : the_After-least-high) where
   abbrev low : ℕ

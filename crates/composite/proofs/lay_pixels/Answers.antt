@@ -12,7 +12,7 @@ use Rattle.composite.proofs.lay_pixels.Reads as reads
 use Rattle.composite.proofs.lay_pixels.Tie as tie
 
 abbrev the_In-loop-i : Type 0
-the_In-loop-i = lts.In-loop tie.the-claims reads.Pre reads.Post goal.the-invariant-loop-i goal.the-decreases-loop-i
+the_In-loop-i = lts.In-loop tie.the-claims reads.Pre reads.Post tie.handed_clauses goal.the-invariant-loop-i goal.the-decreases-loop-i
 
 -- the pixel that is next lies inside
 room : (c : the_In-loop-i) → 4 * c.loop-i.i + 4 ≤ length c.loop-i.picture

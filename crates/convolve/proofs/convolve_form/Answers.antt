@@ -11,7 +11,7 @@ use Rattle.convolve.proofs.convolve_form.Reads as reads
 use Rattle.convolve.proofs.convolve_form.Tie as tie
 
 abbrev the_After-height-h : Type 0
-the_After-height-h = lts.After-height tie.the-claims reads.Pre reads.Post
+the_After-height-h = lts.After-height tie.the-claims reads.Pre reads.Post tie.handed_clauses
 
 abbrev start : the_After-height-h → Start
 start t = t.before.before.before.before.before

@@ -11,10 +11,10 @@ use Rattle.convolve.proofs.convolve_line.Reads as reads
 use Rattle.convolve.proofs.convolve_line.Tie as tie
 
 abbrev the_At-loop-x : Type 0
-the_At-loop-x = lts.At-loop tie.the-claims reads.Pre reads.Post goal.the-invariant-loop-x goal.the-decreases-loop-x
+the_At-loop-x = lts.At-loop tie.the-claims reads.Pre reads.Post tie.handed_clauses goal.the-invariant-loop-x goal.the-decreases-loop-x
 
 abbrev the_After-least-m : Type 0
-the_After-least-m = lts.After-least tie.the-claims reads.Pre reads.Post goal.the-invariant-loop-x goal.the-decreases-loop-x
+the_After-least-m = lts.After-least tie.the-claims reads.Pre reads.Post tie.handed_clauses goal.the-invariant-loop-x goal.the-decreases-loop-x
 
 -- where the function starts, from the loop's head
 abbrev start : the_At-loop-x → Start

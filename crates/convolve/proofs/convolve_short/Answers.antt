@@ -14,10 +14,10 @@ use Rattle.convolve.proofs.convolve_short.Reads as reads
 use Rattle.convolve.proofs.convolve_short.Tie as tie
 
 abbrev the_At-loop-y : Type 0
-the_At-loop-y = lts.At-loop tie.the-claims reads.Pre reads.Post goal.the-invariant-loop-y goal.the-decreases-loop-y
+the_At-loop-y = lts.At-loop tie.the-claims reads.Pre reads.Post tie.handed_clauses goal.the-invariant-loop-y goal.the-decreases-loop-y
 
 abbrev the_In-loop-y : Type 0
-the_In-loop-y = lts.In-loop tie.the-claims reads.Pre reads.Post goal.the-invariant-loop-y goal.the-decreases-loop-y
+the_In-loop-y = lts.In-loop tie.the-claims reads.Pre reads.Post tie.handed_clauses goal.the-invariant-loop-y goal.the-decreases-loop-y
 
 -- where the function starts, from the loop's head
 abbrev start : the_At-loop-y → Start

@@ -17,10 +17,10 @@ use Rattle.grid_sums.proofs.add_sample.Reads as reads
 use Rattle.grid_sums.proofs.add_sample.Tie as tie
 
 abbrev the_After-add_tap-arg-1 : Type 0
-the_After-add_tap-arg-1 = lts.After-add_tap-arg tie.the-claims reads.Pre reads.Post
+the_After-add_tap-arg-1 = lts.After-add_tap-arg tie.the-claims reads.Pre reads.Post tie.handed_clauses
 
 abbrev the_After-add_tap-arg-in-Inside-1 : Type 0
-the_After-add_tap-arg-in-Inside-1 = lts.After-add_tap-arg2 tie.the-claims reads.Pre reads.Post
+the_After-add_tap-arg-in-Inside-1 = lts.After-add_tap-arg2 tie.the-claims reads.Pre reads.Post tie.handed_clauses
 
 -- a sum with a sample in its numerator
 more : (a k : ℕ) {v w : ℕ} → v ≡ w → a + v * k ≡ a + w * k

@@ -14,7 +14,7 @@ use Rattle.grid_sums.proofs.add_tap.Reads as reads
 use Rattle.grid_sums.proofs.add_tap.Tie as tie
 
 abbrev the_After-add_part : Type 0
-the_After-add_part = lts.After-add_part tie.the-claims reads.Pre reads.Post
+the_After-add_part = lts.After-add_part tie.the-claims reads.Pre reads.Post tie.handed_clauses
 
 -- once the 16 bits are added
 module _ (u : the_After-add_part) where

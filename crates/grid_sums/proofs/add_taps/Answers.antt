@@ -14,7 +14,7 @@ use Rattle.grid_sums.proofs.add_taps.Reads as reads
 use Rattle.grid_sums.proofs.add_taps.Tie as tie
 
 abbrev the_At-loop-j : Type 0
-the_At-loop-j = lts.At-loop tie.the-claims reads.Pre reads.Post goal.the-invariant-loop-j goal.the-decreases-loop-j
+the_At-loop-j = lts.At-loop tie.the-claims reads.Pre reads.Post tie.handed_clauses goal.the-invariant-loop-j goal.the-decreases-loop-j
 
 -- where the function starts, from the loop's head
 abbrev start : the_At-loop-j → Start

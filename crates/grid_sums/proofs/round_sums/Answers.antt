@@ -7,9 +7,10 @@ use Rattle.grid_sums.specs.Room.{most_sum}
 use Rattle.grid_sums.proofs.round_sums.Goals as goal
 use Rattle.grid_sums.proofs.round_sums.Lts as lts
 use Rattle.grid_sums.proofs.round_sums.Reads as reads
+use Rattle.grid_sums.proofs.round_sums.Tie as tie
 
 abbrev the_After-shared_slice_known-1 : Type 0
-the_After-shared_slice_known-1 = lts.After-shared_slice_known reads.Pre reads.Post goal.the-invariant-loop-i goal.the-decreases-loop-i
+the_After-shared_slice_known-1 = lts.After-shared_slice_known reads.Pre reads.Post tie.handed_clauses goal.the-invariant-loop-i goal.the-decreases-loop-i
 
 -- the sum of a turn has room, and rounds to a byte
 small : (c : the_After-shared_slice_known-1) → get_or c.args.acc.now c.loop-i.i 0 ≤ most_sum

@@ -11,7 +11,7 @@ use Rattle.opaque.proofs.copy_blocks.Reads as reads
 use Rattle.opaque.proofs.copy_blocks.Tie as tie
 
 abbrev the_At-loop-at : Type 0
-the_At-loop-at = lts.At-loop tie.the-claims reads.Pre reads.Post goal.the-invariant-loop-at goal.the-decreases-loop-at
+the_At-loop-at = lts.At-loop tie.the-claims reads.Pre reads.Post tie.handed_clauses goal.the-invariant-loop-at goal.the-decreases-loop-at
 
 pub loop-at-init : goal.loop-at-init
 loop-at-init c = (omega arith, omega arith, front_none _ _, refl, omega arith)

@@ -12,7 +12,7 @@ use Rattle.points.proofs.write_row.Reads as reads
 use Rattle.points.proofs.write_row.Tie as tie
 
 abbrev the_In-loop-x : Type 0
-the_In-loop-x = lts.In-loop tie.the-claims reads.Pre reads.Post goal.the-invariant-loop-x goal.the-decreases-loop-x
+the_In-loop-x = lts.In-loop tie.the-claims reads.Pre reads.Post tie.handed_clauses goal.the-invariant-loop-x goal.the-decreases-loop-x
 
 -- how a turn of the loop stands
 module _ (c : the_In-loop-x) where

@@ -12,10 +12,10 @@ use Rattle.turns.proofs.turn_elements.Reads as reads
 use Rattle.turns.proofs.turn_elements.Tie as tie
 
 abbrev the_At-loop-x : Type 0
-the_At-loop-x = lts.At-loop tie.the-claims reads.Pre reads.Post goal.the-invariant-loop-x goal.the-decreases-loop-x
+the_At-loop-x = lts.At-loop tie.the-claims reads.Pre reads.Post tie.handed_clauses goal.the-invariant-loop-x goal.the-decreases-loop-x
 
 abbrev the_In-loop-x : Type 0
-the_In-loop-x = lts.In-loop tie.the-claims reads.Pre reads.Post goal.the-invariant-loop-x goal.the-decreases-loop-x
+the_In-loop-x = lts.In-loop tie.the-claims reads.Pre reads.Post tie.handed_clauses goal.the-invariant-loop-x goal.the-decreases-loop-x
 
 -- where the function starts, from the loop's head
 abbrev start : the_At-loop-x → Start

@@ -16,7 +16,7 @@ use Rattle.whole_lines.proofs.whole_level.Reads as reads
 use Rattle.whole_lines.proofs.whole_level.Tie as tie
 
 abbrev the_After-whole_rows : Type 0
-the_After-whole_rows = lts.After-whole_rows tie.the-claims reads.Pre reads.Post
+the_After-whole_rows = lts.After-whole_rows tie.the-claims reads.Pre reads.Post tie.handed_clauses
 
 pub whole_rows-requires : goal.whole_rows-requires
 whole_rows-requires c =

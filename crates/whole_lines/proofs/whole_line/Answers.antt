@@ -12,10 +12,10 @@ use Rattle.whole_lines.proofs.whole_line.Reads as reads
 use Rattle.whole_lines.proofs.whole_line.Tie as tie
 
 abbrev the_At-loop-p : Type 0
-the_At-loop-p = lts.At-loop tie.the-claims reads.Pre reads.Post goal.the-invariant-loop-p goal.the-decreases-loop-p
+the_At-loop-p = lts.At-loop tie.the-claims reads.Pre reads.Post tie.handed_clauses goal.the-invariant-loop-p goal.the-decreases-loop-p
 
 abbrev the_After-slice_known-in-loop-p-2-1 : Type 0
-the_After-slice_known-in-loop-p-2-1 = lts.After-slice_known4 tie.the-claims reads.Pre reads.Post goal.the-invariant-loop-p goal.the-decreases-loop-p
+the_After-slice_known-in-loop-p-2-1 = lts.After-slice_known4 tie.the-claims reads.Pre reads.Post tie.handed_clauses goal.the-invariant-loop-p goal.the-decreases-loop-p
 
 -- where the function starts, from the loop's head
 abbrev begin : the_At-loop-p → Start

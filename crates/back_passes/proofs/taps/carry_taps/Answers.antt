@@ -13,7 +13,7 @@ use Rattle.back_passes.proofs.taps.carry_taps.Reads as reads
 use Rattle.back_passes.proofs.taps.carry_taps.Tie as tie
 
 abbrev the_In-loop-j : Type 0
-the_In-loop-j = lts.In-loop tie.the-claims reads.Pre reads.Post goal.the-invariant-loop-j goal.the-decreases-loop-j
+the_In-loop-j = lts.In-loop tie.the-claims reads.Pre reads.Post tie.handed_clauses goal.the-invariant-loop-j goal.the-decreases-loop-j
 
 pub loop-j-init : goal.loop-j-init
 loop-j-init c =

@@ -16,7 +16,7 @@ use Rattle.mending.proofs.mender.mend_pixels.Reads as reads
 use Rattle.mending.proofs.mender.mend_pixels.Tie as tie
 
 abbrev the_After-bytes-n : Type 0
-the_After-bytes-n = lts.After-bytes tie.the-claims reads.Pre reads.Post goal.the-invariant-loop-i goal.the-decreases-loop-i
+the_After-bytes-n = lts.After-bytes tie.the-claims reads.Pre reads.Post tie.handed_clauses goal.the-invariant-loop-i goal.the-decreases-loop-i
 
 pub bytes-n-requires : goal.bytes-n-requires
 bytes-n-requires c = c.requires.fact_1.sized

@@ -28,22 +28,22 @@ use Rattle.pam.proofs.reading.pam_read.Reads as reads
 use Rattle.pam.proofs.reading.pam_read.Tie as tie
 
 abbrev the_After-height_in-h : Type 0
-the_After-height_in-h = lts.After-height_in tie.the-claims reads.Pre reads.Post
+the_After-height_in-h = lts.After-height_in tie.the-claims reads.Pre reads.Post tie.handed_clauses
 
 abbrev the_After-too_short : Type 0
-the_After-too_short = lts.After-too_short tie.the-claims reads.Pre reads.Post
+the_After-too_short = lts.After-too_short tie.the-claims reads.Pre reads.Post tie.handed_clauses
 
 abbrev the_Else-too_short : Type 0
-the_Else-too_short = lts.Else2 tie.the-claims reads.Pre reads.Post
+the_Else-too_short = lts.Else2 tie.the-claims reads.Pre reads.Post tie.handed_clauses
 
 abbrev the_After-full_size-size : Type 0
-the_After-full_size-size = lts.After-full_size tie.the-claims reads.Pre reads.Post
+the_After-full_size-size = lts.After-full_size tie.the-claims reads.Pre reads.Post tie.handed_clauses
 
 abbrev the_After-bytes-n : Type 0
-the_After-bytes-n = lts.After-bytes tie.the-claims reads.Pre reads.Post
+the_After-bytes-n = lts.After-bytes tie.the-claims reads.Pre reads.Post tie.handed_clauses
 
 abbrev the_After-header_length-start : Type 0
-the_After-header_length-start = lts.After-header_length tie.the-claims reads.Pre reads.Post
+the_After-header_length-start = lts.After-header_length tie.the-claims reads.Pre reads.Post tie.handed_clauses
 
 pub returns-then-not-is_pam : goal.returns-then-not-is_pam
 returns-then-not-is_pam c = no_pam _ _ (sym c.is_pam.ensures ∙ not-true _ c.if-not-is_pam.true)

@@ -17,7 +17,7 @@ use Rattle.pam_convert.proofs.bodies.convert_blocks.Reads as reads
 use Rattle.pam_convert.proofs.bodies.convert_blocks.Tie as tie
 
 abbrev the_At-loop-at : Type 0
-the_At-loop-at = lts.At-loop tie.the-claims reads.Pre reads.Post goal.the-invariant-loop-at goal.the-decreases-loop-at
+the_At-loop-at = lts.At-loop tie.the-claims reads.Pre reads.Post tie.handed_clauses goal.the-invariant-loop-at goal.the-decreases-loop-at
 
 pub loop-at-init : goal.loop-at-init
 unfolding build

@@ -10,7 +10,7 @@ use Rattle.pam_convert.proofs.words.new_block.Reads as reads
 use Rattle.pam_convert.proofs.words.new_block.Tie as tie
 
 abbrev the_After-pack_pixels : Type 0
-the_After-pack_pixels = lts.After-pack_pixels tie.the-claims reads.Pre reads.Post
+the_After-pack_pixels = lts.After-pack_pixels tie.the-claims reads.Pre reads.Post tie.handed_clauses
 
 -- what is packed are bytes
 bytes : (c : the_After-pack_pixels) → Bytes c.args.from.now

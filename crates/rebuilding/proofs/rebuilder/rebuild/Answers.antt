@@ -15,13 +15,13 @@ use Rattle.rebuilding.proofs.rebuilder.rebuild.Reads as reads
 use Rattle.rebuilding.proofs.rebuilder.rebuild.Tie as tie
 
 abbrev the_Else-wrong_sides : Type 0
-the_Else-wrong_sides = lts.Else1 tie.the-claims reads.Pre reads.Post
+the_Else-wrong_sides = lts.Else1 tie.the-claims reads.Pre reads.Post tie.handed_clauses
 
 abbrev the_Else-wrong_length : Type 0
-the_Else-wrong_length = lts.Else2 tie.the-claims reads.Pre reads.Post
+the_Else-wrong_length = lts.Else2 tie.the-claims reads.Pre reads.Post tie.handed_clauses
 
 abbrev the_After-wrong_list : Type 0
-the_After-wrong_list = lts.After-wrong_list tie.the-claims reads.Pre reads.Post
+the_After-wrong_list = lts.After-wrong_list tie.the-claims reads.Pre reads.Post tie.handed_clauses
 
 pub returns-then-wrong_sides : goal.returns-then-wrong_sides
 unfolding rebuild_outcome settled first_of first_else

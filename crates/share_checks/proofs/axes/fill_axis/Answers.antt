@@ -12,7 +12,7 @@ use Rattle.share_checks.proofs.axes.fill_axis.Reads as reads
 use Rattle.share_checks.proofs.axes.fill_axis.Tie as tie
 
 abbrev the_After-length-s : Type 0
-the_After-length-s = lts.After-length tie.the-claims reads.Pre reads.Post
+the_After-length-s = lts.After-length tie.the-claims reads.Pre reads.Post tie.handed_clauses
 
 -- both rows are as long as the axis
 rooms : (c : the_After-length-s) →

@@ -21,10 +21,10 @@ use Rattle.share_lists.proofs.listing.list_axes.Reads as reads
 use Rattle.share_lists.proofs.listing.list_axes.Tie as tie
 
 abbrev the_After-nonzeros-2 : Type 0
-the_After-nonzeros-2 = lts.After-nonzeros2 tie.the-claims reads.Pre reads.Post
+the_After-nonzeros-2 = lts.After-nonzeros2 tie.the-claims reads.Pre reads.Post tie.handed_clauses
 
 abbrev the_Else-list-count : Type 0
-the_Else-list-count = lts.Else1 tie.the-claims reads.Pre reads.Post
+the_Else-list-count = lts.Else1 tie.the-claims reads.Pre reads.Post tie.handed_clauses
 
 -- the count is that of the points, and it fits
 counted : (c : the_After-nonzeros-2) →

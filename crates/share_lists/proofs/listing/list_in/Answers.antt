@@ -16,16 +16,16 @@ use Rattle.share_lists.proofs.listing.list_in.Reads as reads
 use Rattle.share_lists.proofs.listing.list_in.Tie as tie
 
 abbrev the_After-width-w : Type 0
-the_After-width-w = lts.After-width tie.the-claims reads.Pre reads.Post
+the_After-width-w = lts.After-width tie.the-claims reads.Pre reads.Post tie.handed_clauses
 
 abbrev the_After-height-h : Type 0
-the_After-height-h = lts.After-height tie.the-claims reads.Pre reads.Post
+the_After-height-h = lts.After-height tie.the-claims reads.Pre reads.Post tie.handed_clauses
 
 abbrev the_After-fill_axis : Type 0
-the_After-fill_axis = lts.After-fill_axis tie.the-claims reads.Pre reads.Post
+the_After-fill_axis = lts.After-fill_axis tie.the-claims reads.Pre reads.Post tie.handed_clauses
 
 abbrev the_After-fill_axis-2 : Type 0
-the_After-fill_axis-2 = lts.After-fill_axis2 tie.the-claims reads.Pre reads.Post
+the_After-fill_axis-2 = lts.After-fill_axis2 tie.the-claims reads.Pre reads.Post tie.handed_clauses
 
 pub fill_axis-requires : goal.fill_axis-requires
 fill_axis-requires c = let p = c.requires in let f = rw (c.across.ensures, c.width-w.ensures) (across_asked p.0, (p.1.0.0, p.1.1.0)) in record { fact_1 = f.0; fact_2 = f.1.0; fact_3 = f.1.1 }

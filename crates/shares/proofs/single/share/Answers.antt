@@ -16,10 +16,10 @@ use Rattle.shares.proofs.single.share.Reads as reads
 use Rattle.shares.proofs.single.share.Tie as tie
 
 abbrev the_After-check_share : Type 0
-the_After-check_share = lts.After-check_share tie.the-claims reads.Pre reads.Post
+the_After-check_share = lts.After-check_share tie.the-claims reads.Pre reads.Post tie.handed_clauses
 
 abbrev the_In-Passed : Type 0
-the_In-Passed = lts.After-enum_told tie.the-claims reads.Pre reads.Post
+the_In-Passed = lts.After-enum_told tie.the-claims reads.Pre reads.Post tie.handed_clauses
 
 -- whether a place lies outside, as the checks have it
 outside : (c : the_After-check_share) → let a = c.args in

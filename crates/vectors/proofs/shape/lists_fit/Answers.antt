@@ -15,10 +15,10 @@ use Rattle.vectors.proofs.shape.lists_fit.Reads as reads
 use Rattle.vectors.proofs.shape.lists_fit.Tie as tie
 
 abbrev the_Else-other-v : Type 0
-the_Else-other-v = lts.Else1 tie.the-claims reads.Pre reads.Post
+the_Else-other-v = lts.Else1 tie.the-claims reads.Pre reads.Post tie.handed_clauses
 
 abbrev the_Else-not-part_under : Type 0
-the_Else-not-part_under = lts.Else2 tie.the-claims reads.Pre reads.Post
+the_Else-not-part_under = lts.Else2 tie.the-claims reads.Pre reads.Post tie.handed_clauses
 
 pub returns-then-other-v : goal.returns-then-other-v
 unfolding lists_fit
