@@ -6,39 +6,30 @@ use lib.ListN.{length}
 use lib.Seq.{length-take-le, length_front}
 use Rattle.gaussian_blur.proofs.Outcomes.{lent_cleared}
 use Rattle.gaussian_blur.proofs.blur_accepted.Goals as goal
-use Rattle.gaussian_blur.proofs.blur_accepted.Lts as lts
-use Rattle.gaussian_blur.proofs.blur_accepted.Reads as reads
-use Rattle.gaussian_blur.proofs.blur_accepted.Tie as tie
-
-abbrev the_After-bytes-k : Type 0
-the_After-bytes-k = lts.After-bytes tie.the-claims reads.Pre reads.Post
+use Rattle.gaussian_blur.proofs.blur_accepted.Goals.{After-bytes-k}
 
 pub bytes-k-requires : goal.bytes-k-requires
 bytes-k-requires c = c.requires.pictured.sized
 
 -- what the picture takes lies within the scratch
-k-fits : (c : the_After-bytes-k) → c.bytes-k.result ≤ length c.args.scratch.now
-k-fits c = let r = c.requires in omega (arith, c.bytes-k.ensures, r.room)
+k_fits : (c : After-bytes-k) → c.bytes-k.result ≤ length c.args.scratch.now
+k_fits c = omega (arith, c.bytes-k.ensures, c.requires.room)
 
 pub slice_bounds-blur_or_keep-end : goal.slice_bounds-blur_or_keep-end
-slice_bounds-blur_or_keep-end c = k-fits c.before.before
+slice_bounds-blur_or_keep-end c = k_fits (goal.at.slice_bounds-blur_or_keep-end c).After-bytes-k
 
 pub slice_bounds-blur_or_keep-end-2 : goal.slice_bounds-blur_or_keep-end-2
-slice_bounds-blur_or_keep-end-2 c = sym (length-take-le _ _ (k-fits c.before.before.before))
+slice_bounds-blur_or_keep-end-2 c = sym (length-take-le _ _ (k_fits (goal.at.slice_bounds-blur_or_keep-end-2 c).After-bytes-k))
 
 pub blur_or_keep-requires : goal.blur_or_keep-requires
 blur_or_keep-requires c =
-    let b = c.before.before.before in
     let r = c.requires in
-    record { pictured = r.pictured; scratch_is = length-take-le _ _ (k-fits b) ∙ c.bytes-k.ensures; kernel = r.kernel }
+    record { pictured = r.pictured; scratch_is = length-take-le _ _ (k_fits (goal.at.blur_or_keep-requires c).After-bytes-k) ∙ c.bytes-k.ensures; kernel = r.kernel }
 
 pub clear-requires : goal.clear-requires
 clear-requires c =
-    let v = c.before.before.before.before.before.before in
-    let b = v.before.before.before in
-    let a = c.args in
-    omega (arith, length_front a.scratch.now c.blur_or_keep.new.1.0 c.bytes-k.result c.blur_or_keep.auto.1.0, k-fits b)
+    omega (arith, length_front c.args.scratch.now c.blur_or_keep.new.scratch c.bytes-k.result c.blur_or_keep.auto.scratch, k_fits (goal.at.clear-requires c).After-bytes-k)
 
 pub returns : goal.returns
 returns c =
-    lent_cleared c.args.scratch.now c.blur_or_keep.new.1.0 c.bytes-k.ensures c.requires.room c.blur_or_keep.auto.1.0 c.blur_or_keep.ensures c.clear.ensures
+    lent_cleared c.args.scratch.now c.blur_or_keep.new.scratch c.bytes-k.ensures c.requires.room c.blur_or_keep.auto.scratch c.blur_or_keep.ensures c.clear.ensures
