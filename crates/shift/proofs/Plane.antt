@@ -17,7 +17,7 @@ use Rattle.binary32.specs.declared.Offset.{Offset}
 use Rattle.shift.specs.Shift.{moved, shifted}
 use Rattle.picture.specs.Buffers.{line_of}
 use Rattle.shift.specs.Bytes.{slid, zeroed, inside_kept, plane_shifted, OneWay, moved_out}
-use Rattle.shift.proofs.Moved.{from_before, from_inside, from_past, moved_is, moved_as, moved_zeros, moved_out}
+use Rattle.shift.proofs.Moved.{from_before, from_inside, from_past, moved_is, moved_as, moved_zeros, moved_out as nothing_inside}
 use Rattle.picture.proofs.Build.{build_same}
 use Rattle.shift.proofs.Zeroed.{blank_inside}
 
@@ -78,5 +78,5 @@ module _ (dx dy : Offset) (w h : ℕ) (bytes : List ℕ) (exact : length bytes �
       positive i l = ⊎_elim (λ z. absurd (omega (arith, ap (λ (k : ℕ). h * k) z, mul-zero h))) (λ p. p) (eq-zero-or-pos w)
 
       by_axis : (t : Bool) → moved_out w dx ≡ t → (t || moved_out h dy) ≡ true → (x y : ℕ) → x < w → y < h → moved dx w (λ i. moved dy h (λ j. line_of bytes (j * w + i)) y) x ≡ 0
-      by_axis true a b x y l m = moved_out dx w _ x o (leb-true w _ a) l
-      by_axis false a b x y l m = moved_zeros dx w _ x (λ i _. moved_out dy h _ y u (leb-true h _ b) m)
+      by_axis true a b x y l m = nothing_inside dx w _ x o (leb-true w _ a) l
+      by_axis false a b x y l m = moved_zeros dx w _ x (λ i _. nothing_inside dy h _ y u (leb-true h _ b) m)

@@ -3,7 +3,7 @@ use Prim.Native.Nat.{◌+◌, ◌-◌, ◌*◌, ◌≤◌}
 use native.Mathlib.Omega.{arith}
 use lib.ListN.{length}
 use Rattle.composite.specs.Plane.{tint_on}
-use Rattle.pixels.proofs.Painting.{turn, ends}
+use Rattle.pixels.proofs.Painting.{begins, turn, ends}
 use Rattle.composite.proofs.Laid.{plane_here}
 use Rattle.composite.proofs.tint_pixels.Goals as goal
 use Rattle.composite.proofs.tint_pixels.Lts as lts
@@ -11,7 +11,7 @@ use Rattle.composite.proofs.tint_pixels.Reads as reads
 use Rattle.composite.proofs.tint_pixels.Tie as tie
 
 abbrev the_In-loop-i : Type 0
-the_In-loop-i = lts.In-loop tie.the-claims reads.Pre reads.Post tie.handed_clauses goal.the-invariant-loop-i goal.the-decreases-loop-i
+the_In-loop-i = lts.In-loop tie.the-claims reads.Pre reads.Post goal.the-invariant-loop-i goal.the-decreases-loop-i tie.handed_clauses
 
 -- the pixel that is next lies inside
 room : (c : the_In-loop-i) → 4 * c.loop-i.i + 4 ≤ length c.loop-i.picture

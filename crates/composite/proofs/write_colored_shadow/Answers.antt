@@ -7,20 +7,10 @@ use Rattle.composite.proofs.write_colored_shadow.Goals as goal
 
 pub returns-then-composite : goal.returns-then-composite
 returns-then-composite c =
-    let call = c.before.before.before in
-    let then = call.before.before.before in
-    let made = then.before in
-    let alphas = made.before.before.before in
-    let s = alphas.before.before.before.before in
-    let a = s.args in
-    shadow_written a.size.w a.size.h (painted a.size.w a.size.h) (painted_same a.size.w a.size.h) (chan a.picture.now a.size.w) a.colour a.plane.now s.requires.0 true c.if-composite.true c.tint_of-tint.ensures c.shadow_alphas.ensures c.lay_pixels.ensures
+    let a = c.args in
+    shadow_written a.size.w a.size.h (painted a.size.w a.size.h) (painted_same a.size.w a.size.h) (chan a.picture.now a.size.w) a.colour a.plane.now c.requires.fact_1 true c.if-composite.true c.tint_of-tint.ensures c.shadow_alphas.ensures c.lay_pixels.ensures
 
 pub returns-else-composite : goal.returns-else-composite
 returns-else-composite c =
-    let call = c.before.before.before in
-    let else = call.before.before.before in
-    let made = else.before in
-    let alphas = made.before.before.before in
-    let s = alphas.before.before.before.before in
-    let a = s.args in
-    shadow_written a.size.w a.size.h (painted a.size.w a.size.h) (painted_same a.size.w a.size.h) (chan a.picture.now a.size.w) a.colour a.plane.now s.requires.0 false c.if-composite.false c.tint_of-tint.ensures c.shadow_alphas.ensures c.tint_pixels.ensures
+    let a = c.args in
+    shadow_written a.size.w a.size.h (painted a.size.w a.size.h) (painted_same a.size.w a.size.h) (chan a.picture.now a.size.w) a.colour a.plane.now c.requires.fact_1 false c.if-composite.false c.tint_of-tint.ensures c.shadow_alphas.ensures c.tint_pixels.ensures

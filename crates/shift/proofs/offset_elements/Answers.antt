@@ -15,10 +15,10 @@ use Rattle.shift.proofs.offset_elements.Reads as reads
 use Rattle.shift.proofs.offset_elements.Tie as tie
 
 abbrev the_After-height-h : Type 0
-the_After-height-h = lts.After-height tie.the-claims reads.Pre reads.Post
+the_After-height-h = lts.After-height tie.the-claims reads.Pre reads.Post tie.handed_clauses
 
 abbrev the_After-round_offset-down : Type 0
-the_After-round_offset-down = lts.After-round_offset2 tie.the-claims reads.Pre reads.Post
+the_After-round_offset-down = lts.After-round_offset2 tie.the-claims reads.Pre reads.Post tie.handed_clauses
 
 abbrev start : the_After-height-h → Start
 start c = c.before.before.before
@@ -61,8 +61,7 @@ overflow_mul-lanes-3 c = let r = c.before.before.before in let m = r.before.befo
 pub move_plane-requires : goal.move_plane-requires
 move_plane-requires c =
     let r = c.before.before.before in
-    let m = r.before.before in
-    (
+    let m = r.before.before in (
       elements_length c.args.lanes _ _ c.args.size.w c.args.size.h (sides m).0 (sides m).1 c.args.bytes.now c.requires.fact_2.exact,
       one_way_bytes c.args.lanes _ (rw (across r) (omega (arith, one_way c.args.dx))),
       rw (down r) (omega (arith, one_way c.args.dy)),
