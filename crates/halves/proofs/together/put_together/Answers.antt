@@ -8,5 +8,5 @@ use Rattle.halves.proofs.together.put_together.Goals as goal
 pub returns : goal.returns
 returns c =
     let a = c.args in
-    block_together a.src.now a.dst.now (λ i. omega (arith, (c.shared_slice_known-1.given i).fits)) a.n a.m _ _ _ c.pair_bytes.ensures c.pair_bytes-2.ensures _
-    (span_ends c.lay_pixels.ensures refl (omega (arith, c.pair_bytes.auto.0)))
+    block_together a.src.now a.dst.now (λ i. omega (arith, c.type_inv.src i)) a.n a.m _ _ _ c.pair_bytes.ensures c.pair_bytes-2.ensures _
+    (span_ends c.lay_pixels.ensures refl (omega (arith, c.pair_bytes.auto.halves)))
