@@ -1,0 +1,13 @@
+// The library for C and C++: each function of include/corbelrush.h under its own name, with the contract of the function of the face that it calls.
+#![tactic(auto)]
+
+pub mod areas;
+pub mod explains;
+pub mod filters;
+pub mod grades;
+pub mod images;
+pub mod mends;
+pub mod plane_filters;
+pub mod plates;
+pub mod recipe_lists;
+pub mod wholes;
