@@ -1,5 +1,5 @@
 use mathlib.Core.Path.{◌≡◌, refl, ◌∙◌}
-use Prim.Native.Nat.{◌+◌, ◌-◌, ◌*◌, ◌≤◌}
+use Prim.Native.Nat.{◌+◌, ◌*◌, ◌≤◌}
 use native.Mathlib.Nat.{add-mul, one-mul}
 use native.Mathlib.Omega.{arith}
 use lib.ListN.{length}
@@ -7,24 +7,26 @@ use Rattle.picture.proofs.Planes.{quotient, remainder}
 use Rattle.picture.proofs.Spans.{within}
 use Rattle.blocks.proofs.Progress.{made_none, made_run, made_join}
 use Rattle.blocks.proofs.fill.Goals as goal
-use Rattle.blocks.proofs.fill.Lts as lts
-use Rattle.blocks.proofs.fill.Reads as reads
-use Rattle.blocks.proofs.fill.Tie as tie
-
-abbrev the_In-loop-e : Type 0
-the_In-loop-e = lts.In-loop tie.the-claims reads.Pre reads.Post tie.handed_clauses goal.the-invariant-loop-e goal.the-decreases-loop-e
+use Rattle.blocks.proofs.fill.Goals.{In-loop-e}
 
 pub loop-e-init : goal.loop-e-init
 loop-e-init c = (omega arith, c.requires.fact_1.0, refl, made_none (λ t r. omega arith))
 
 -- the values of element e end within the line
-room : (c : the_In-loop-e) →
+room : (c : In-loop-e) →
     let a = c.args in c.loop-e.e * a.n + a.n ≤ length c.loop-e.line
 room c =
     omega (arith, within 0 c.args.n c.loop-e.e c.args.last c.loop-e-test.true, c.requires.fact_1.1, c.loop-e.invariant.2)
 
 pub fill_element-requires : goal.fill_element-requires
-fill_element-requires c = let r = c.requires.fact_4 in record { fact_1 = room c.before.before; fact_2 = c.requires.fact_2; fact_3 = c.requires.fact_3; fact_4 = record { s_low = r.s_low; s_high = r.s_high; c_high = omega arith; d_high = r.d_high } }
+fill_element-requires c =
+    let r = c.requires.fact_4 in
+    record {
+      fact_1 = room (goal.at.fill_element-requires c).In-loop-e;
+      fact_2 = c.requires.fact_2;
+      fact_3 = c.requires.fact_3;
+      fact_4 = record { s_low = r.s_low; s_high = r.s_high; c_high = omega arith; d_high = r.d_high };
+    }
 
 pub loop-e-preserved : goal.loop-e-preserved
 loop-e-preserved c =
@@ -34,7 +36,7 @@ loop-e-preserved c =
     let next : (e + 1) * n ≡ e * n + n = omega (arith, add-mul e 1 n, one-mul n) in (
       omega arith,
       omega arith,
-      c.fill_element.auto.0 ∙ c.loop-e.invariant.2,
+      c.fill_element.auto.line ∙ c.loop-e.invariant.2,
       made_join (λ k. k) (e * n) c.loop-e.invariant.3
           (made_run c.fill_element.ensures (λ k h. rw (quotient n e k h, remainder n e k h)))
           (λ k r u. omega arith)
@@ -45,7 +47,7 @@ pub returns : goal.returns
 returns c = let e : c.loop-e.e ≡ c.args.last = omega arith in rw e at c.loop-e.invariant.3
 
 pub overflow_mul-e : goal.overflow_mul-e
-overflow_mul-e c = omega (arith, room c.before.before)
+overflow_mul-e c = omega (arith, room (goal.at.overflow_mul-e c).In-loop-e)
 
 pub shape_of-line : goal.shape_of-line
 shape_of-line c = c.loop-e.invariant.2

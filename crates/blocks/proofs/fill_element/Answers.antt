@@ -13,18 +13,9 @@ use Rattle.passes.specs.Written.{lane}
 use Rattle.lanes.specs.Lanes.{widened}
 use Rattle.blocks.proofs.Values.{placed, nothing}
 use Rattle.blocks.proofs.fill_element.Goals as goal
-use Rattle.blocks.proofs.fill_element.Goals.{Start}
-use Rattle.blocks.proofs.fill_element.Lts as lts
-use Rattle.blocks.proofs.fill_element.Reads as reads
-use Rattle.blocks.proofs.fill_element.Tie as tie
+use Rattle.blocks.proofs.fill_element.Goals.{In-Inside}
 
-abbrev the_After-widen-arg-1 : Type 0
-the_After-widen-arg-1 = lts.After-widen-arg tie.the-claims reads.Pre reads.Post tie.handed_clauses
-
-abbrev start : the_After-widen-arg-1 → Start
-start c = c.before.before.before.before.before.before.before
-
-module _ (c : the_After-widen-arg-1) where
+module _ (c : In-Inside) where
   is-inside : let a = c.args in place a.mode a.len a.c a.d ≡ Inside c.in-Inside.i
   is-inside = sym c.extend.ensures ∙ c.in-Inside.is
 
@@ -37,15 +28,13 @@ module _ (c : the_After-widen-arg-1) where
 
 pub returns-in-Inside : goal.returns-in-Inside
 returns-in-Inside c =
-    let t = c.before.before.before in
-    let s = t.before in
     let a = c.args in
     let i = c.in-Inside.i in
     span_same c.widen.ensures
     (λ k l h.
     ap widened
     (ap (λ (m : ℕ). get_or a.src.now m 0) (add_assoc (a.start + i * a.stride) a.from _)
-    ∙ placed a.mode a.len a.c a.d (lane a.src.now a.start a.stride (a.from + _)) (is-inside s)))
+    ∙ placed a.mode a.len a.c a.d (lane a.src.now a.start a.stride (a.from + _)) (is-inside (goal.at.returns-in-Inside c).In-Inside)))
 
 pub returns-in-Outside : goal.returns-in-Outside
 returns-in-Outside c =
@@ -56,13 +45,13 @@ returns-in-Outside c =
     ∙ ap widened (placed a.mode a.len a.c a.d (lane a.src.now a.start a.stride (a.from + _)) (sym c.extend.ensures ∙ c.in-Outside.is)))
 
 pub overflow_mul-i : goal.overflow_mul-i
-overflow_mul-i c = omega (arith, ends c.before)
+overflow_mul-i c = let e = ends (goal.at.overflow_mul-i c).In-Inside in omega arith
 
 pub overflow_add-start : goal.overflow_add-start
-overflow_add-start c = omega (arith, ends c.before)
+overflow_add-start c = let e = ends (goal.at.overflow_add-start c).In-Inside in omega arith
 
 pub overflow_add-start-in-Inside : goal.overflow_add-start-in-Inside
-overflow_add-start-in-Inside c = omega (arith, ends c.before)
+overflow_add-start-in-Inside c = let e = ends (goal.at.overflow_add-start-in-Inside c).In-Inside in omega arith
 
 pub widen-requires : goal.widen-requires
-widen-requires c = let f = omega (arith, ends c.before) in record { fact_1 = f.0; fact_2 = f.1 }
+widen-requires c = let e = ends (goal.at.widen-requires c).In-Inside in record { fact_1 = c.requires.fact_1; fact_2 = omega arith }
