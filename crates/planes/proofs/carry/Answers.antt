@@ -35,9 +35,9 @@ loop-i-preserved c =
     let made = c.carry_pixel in
     let more =
     pixel_more (pixelwise s.channel s.pixel) (pixelwise d.channel d.pixel) c.args.src.now _ c.requires.own i (i * s.pixel) s.channel (i * d.pixel) d.channel
-    (λ c.before j lc e. omega (arith, pixel_at_lem s.channel s.pixel j i c.before lc e)) (λ c.before j lc e. omega (arith, pixel_at_lem d.channel d.pixel j i c.before lc e)) c.loop-i.dst (omega arith)
+    (λ k j lc e. omega (arith, pixel_at_lem s.channel s.pixel j i k lc e)) (λ k j lc e. omega (arith, pixel_at_lem d.channel d.pixel j i k lc e)) c.loop-i.dst (omega arith)
     (omega (arith, pixel_inside _ _ _ _ i c.requires.writes (omega arith), c.loop-i.invariant.1)) c.loop-i.invariant.2 in
-    (omega arith, made.auto.1.1.1.0 ∙ c.loop-i.invariant.1, λ j lj. ap (λ (b : List ℕ). get_or b (pixelwise d.channel d.pixel j) 0) made.ensures ∙ more j lj)
+    (omega arith, made.auto.dst ∙ c.loop-i.invariant.1, λ j lj. ap (λ (b : List ℕ). get_or b (pixelwise d.channel d.pixel j) 0) made.ensures ∙ more j lj)
 
 pub returns : goal.returns
 returns c j lj = c.loop-i.invariant.2 j (omega arith)

@@ -21,7 +21,9 @@ slice_bounds-join-end c =
     enough interleaved a.src.now a.w a.h a.dst.now _ c.convert_refusal-r.ensures c.if-r-ne0.false
 
 pub slice_bounds-join-end-2 : goal.slice_bounds-join-end-2
-slice_bounds-join-end-2 c = sym (length-take-le _ _ (slice_bounds-join-end c.before.before))
+slice_bounds-join-end-2 c =
+    let a = c.args in
+    sym (length-take-le _ _ (enough interleaved a.src.now a.w a.h a.dst.now _ c.convert_refusal-r.ensures c.if-r-ne0.false))
 
 pub join-requires : goal.join-requires
 join-requires c =
@@ -31,4 +33,4 @@ join-requires c =
 pub returns : goal.returns
 returns c =
     let a = c.args in
-    call_done interleaved a.src.now a.w a.h a.dst.now _ c.convert_refusal-r.ensures c.if-r-ne0.false _ c.full_size-size.ensures _ c.join.ensures c.join.auto.1.0
+    call_done interleaved a.src.now a.w a.h a.dst.now _ c.convert_refusal-r.ensures c.if-r-ne0.false _ c.full_size-size.ensures _ c.join.ensures c.join.auto.dst

@@ -6,7 +6,7 @@ use Rattle.planes.proofs.join_blocks.Goals as goal
 
 pub loop-m-preserved : goal.loop-m-preserved
 loop-m-preserved c =
-    (omega arith, c.loop-m.invariant.1, c.put_together.auto.0 ∙ c.loop-m.invariant.2, joined_more c.args.n c.loop-m.m c.args.src.now _ _ c.put_together.ensures c.loop-m.invariant.3)
+    (omega arith, c.loop-m.invariant.1, c.put_together.auto.dst ∙ c.loop-m.invariant.2, joined_more c.args.n c.loop-m.m c.args.src.now _ _ c.put_together.ensures c.loop-m.invariant.3)
 
 pub put_together-requires : goal.put_together-requires
 put_together-requires c = record { fact_1 = omega arith; fact_2 = c.requires.source; fact_3 = c.loop-m.invariant.2 ∙ c.requires.room }

@@ -21,7 +21,9 @@ slice_bounds-split-end c =
     enough planar a.src.now a.w a.h a.dst.now _ c.convert_refusal-r.ensures c.if-r-ne0.false
 
 pub slice_bounds-split-end-2 : goal.slice_bounds-split-end-2
-slice_bounds-split-end-2 c = sym (length-take-le _ _ (slice_bounds-split-end c.before.before))
+slice_bounds-split-end-2 c =
+    let a = c.args in
+    sym (length-take-le _ _ (enough planar a.src.now a.w a.h a.dst.now _ c.convert_refusal-r.ensures c.if-r-ne0.false))
 
 pub split-requires : goal.split-requires
 split-requires c =
@@ -31,4 +33,4 @@ split-requires c =
 pub returns : goal.returns
 returns c =
     let a = c.args in
-    call_done planar a.src.now a.w a.h a.dst.now _ c.convert_refusal-r.ensures c.if-r-ne0.false _ c.full_size-size.ensures _ c.split.ensures c.split.auto.1.0
+    call_done planar a.src.now a.w a.h a.dst.now _ c.convert_refusal-r.ensures c.if-r-ne0.false _ c.full_size-size.ensures _ c.split.ensures c.split.auto.dst
