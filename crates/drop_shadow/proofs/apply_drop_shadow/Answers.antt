@@ -12,7 +12,7 @@ write_colored_shadow-requires c = let made = c.before.before.before in
     let cast = made.before.before.before.before.before.before.before in
     let taken = cast.before.before.before.before.before in
     let rules = taken.before.before.before.before.before.before.before.requires in let f = rw c.colour_of-colour.ensures
-    (c.cast_plane.auto.0 ∙ c.take_alphas.auto.0 ∙ rules.0.plane_is, (record { sized = rules.0.sized; exact = rules.1 }, rules.0.given.colour)) in record { fact_1 = f.0; fact_2 = f.1.0; fact_3 = f.1.1 }
+    (c.cast_plane.auto.plane ∙ c.take_alphas.auto.plane ∙ rules.0.plane_is, (record { sized = rules.0.sized; exact = rules.1 }, rules.0.given.colour)) in record { fact_1 = f.0; fact_2 = f.1.0; fact_3 = f.1.1 }
 
 pub returns : goal.returns
 returns c =

@@ -6,7 +6,7 @@ use Rattle.drop_shadow.proofs.cast_plane.Goals as goal
 
 pub blur_form-requires : goal.blur_form-requires
 blur_form-requires c = let z = c.args.cast.size in
-    let exact = mul_comm z.w z.h ∙ sym (plane_bytes_lem z.w z.h) in record { fact_1 = plane_formed; fact_2 = c.requires.sized; fact_3 = c.offset_plane.auto.0 ∙ c.requires.plane_is ∙ exact; fact_4 = c.requires.scratch_is ∙ exact; fact_5 = c.requires.given.kernel }
+    let exact = mul_comm z.w z.h ∙ sym (plane_bytes_lem z.w z.h) in record { fact_1 = plane_formed; fact_2 = c.requires.sized; fact_3 = c.offset_plane.auto.plane ∙ c.requires.plane_is ∙ exact; fact_4 = c.requires.scratch_is ∙ exact; fact_5 = c.requires.given.kernel }
 
 pub returns : goal.returns
 returns c =

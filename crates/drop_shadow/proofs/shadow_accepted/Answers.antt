@@ -18,6 +18,6 @@ returns c =
     let work = c.apply_drop_shadow in
     rw (
       work.ensures,
-      scratch_cleared r c.bytes-k.ensures work.new.1.0 work.auto.1.0 c.clear.ensures,
-      copy_cleared r c.bytes-k.ensures work.new.1.1.0 work.auto.1.1.0 c.clear-2.ensures,
+      scratch_cleared r c.bytes-k.ensures work.new.scratch work.auto.scratch c.clear.ensures,
+      copy_cleared r c.bytes-k.ensures work.new.plane work.auto.plane c.clear-2.ensures,
     )

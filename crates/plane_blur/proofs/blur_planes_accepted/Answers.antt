@@ -37,8 +37,8 @@ clear-requires c =
     let v = c.before.before.before.before.before.before in
     let b = v.before.before.before in
     let a = c.args in
-    omega (arith, length_front a.scratch.now c.apply_blur_planes.new.1.0 c.bytes-k.result c.apply_blur_planes.auto.1.0, k-fits b)
+    omega (arith, length_front a.scratch.now c.apply_blur_planes.new.scratch c.bytes-k.result c.apply_blur_planes.auto.scratch, k-fits b)
 
 pub returns : goal.returns
 returns c =
-    lent_cleared c.args.scratch.now c.apply_blur_planes.new.1.0 c.bytes-k.ensures c.requires.room c.apply_blur_planes.auto.1.0 c.apply_blur_planes.ensures c.clear.ensures
+    lent_cleared c.args.scratch.now c.apply_blur_planes.new.scratch c.bytes-k.ensures c.requires.room c.apply_blur_planes.auto.scratch c.apply_blur_planes.ensures c.clear.ensures

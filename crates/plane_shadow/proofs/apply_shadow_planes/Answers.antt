@@ -11,14 +11,14 @@ pub cast_plane-requires : goal.cast_plane-requires
 cast_plane-requires c =
     let copied = c.before.before.before.before.before in
     let r = copied.before.before.before.before.before.before.before.before.requires.0 in
-    record { sized = r.sized; plane_is = c.copy_bytes.auto.0 ∙ r.plane_is; scratch_is = r.scratch_is; given = r.given }
+    record { sized = r.sized; plane_is = c.copy_bytes.auto.to ∙ r.plane_is; scratch_is = r.scratch_is; given = r.given }
 
 pub write_plane_shadow-requires : goal.write_plane_shadow-requires
 write_plane_shadow-requires c = let made = c.before.before.before in
     let cast = made.before.before.before.before.before.before.before in
     let copied = cast.before.before.before.before.before in
     let rules = copied.before.before.before.before.before.before.before.before.requires in let f = rw c.colour_of-colour.ensures
-    (record { pictured = record { sized = rules.0.sized; exact = rules.1 }; exact = c.cast_plane.auto.0 ∙ c.copy_bytes.auto.0 ∙ rules.0.plane_is }, rules.0.given.colour) in record { fact_1 = f.0; fact_2 = f.1 }
+    (record { pictured = record { sized = rules.0.sized; exact = rules.1 }; exact = c.cast_plane.auto.plane ∙ c.copy_bytes.auto.to ∙ rules.0.plane_is }, rules.0.given.colour) in record { fact_1 = f.0; fact_2 = f.1 }
 
 pub returns : goal.returns
 returns c =

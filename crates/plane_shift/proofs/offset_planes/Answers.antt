@@ -50,8 +50,8 @@ loop-c-preserved c =
     let s = l.before.before in
     let a = c.args in
     let moved =
-    plane_more (whole_offset a.dx) (whole_offset a.dy) a.size.w a.size.h a.planes.now c.loop-c.planes c.offset_plane.new.0 c.loop-c.c (length a.planes.now / 4)
-    (omega (arith, four s)) (four s) (omega arith) c.loop-c.invariant.2 c.offset_plane.auto.0 c.offset_plane.ensures in
+    plane_more (whole_offset a.dx) (whole_offset a.dy) a.size.w a.size.h a.planes.now c.loop-c.planes c.offset_plane.new.plane c.loop-c.c (length a.planes.now / 4)
+    (omega (arith, four s)) (four s) (omega arith) c.loop-c.invariant.2 c.offset_plane.auto.plane c.offset_plane.ensures in
     (omega arith, moved.size, moved)
 
 pub returns : goal.returns

@@ -52,7 +52,7 @@ pub loop-i-preserved : goal.loop-i-preserved
 loop-i-preserved c =
     let call = c.before.before.before.before in
     let at = call.before.before.before in
-    turn_more c.loop-i.invariant (omega arith) (fits at) (inside at) c.mend_one-k.ensures.value c.mend_one-k.ensures.picture_after c.mend_one-k.ensures.list_after c.mend_one-k.auto.1.0
+    turn_more c.loop-i.invariant (omega arith) (fits at) (inside at) c.mend_one-k.ensures.value c.mend_one-k.ensures.picture_after c.mend_one-k.ensures.list_after c.mend_one-k.auto.list
 
 pub shape_of-picture : goal.shape_of-picture
 shape_of-picture c = c.loop-i.invariant.painting.run.size

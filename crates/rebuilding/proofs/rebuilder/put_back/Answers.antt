@@ -17,7 +17,7 @@ set_pixel-requires c =
 
 pub loop-i-preserved : goal.loop-i-preserved
 loop-i-preserved c =
-    (omega arith, c.loop-i.invariant.1 ∙ restored_at c.args.list.now c.loop-i.picture c.loop-i.i (omega arith) ∙ rw (c.set_pixel.ensures, c.unpack.ensures, c.place.ensures), c.set_pixel.auto.0 ∙ c.loop-i.invariant.2)
+    (omega arith, c.loop-i.invariant.1 ∙ restored_at c.args.list.now c.loop-i.picture c.loop-i.i (omega arith) ∙ rw (c.set_pixel.ensures, c.unpack.ensures, c.place.ensures), c.set_pixel.auto.bytes ∙ c.loop-i.invariant.2)
 
 pub returns : goal.returns
 unfolding restored
