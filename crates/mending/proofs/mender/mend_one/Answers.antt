@@ -8,23 +8,26 @@ use Rattle.mending.proofs.mender.mend_one.Goals as goal
 use Rattle.mending.proofs.mender.mend_one.Goals.{After-exceeds}
 
 -- the test is the definition's
-tested : (c : After-exceeds) → let a = c.before.before.before.before.args in exceeds_at a.picture.now a.i ≡ c.exceeds.result
+tested : (c : After-exceeds) → exceeds_at c.args.picture.now c.args.i ≡ c.exceeds.result
 tested c = sym (c.exceeds.ensures ∙ ap exceeds c.pixel_at-p.ensures)
 
 pub bounds-list-k : goal.bounds-list-k
 bounds-list-k c =
-    let then = c.before in
-    omega (arith, rw (tested then.before ∙ c.if-exceeds.true) at then.before.before.before.before.before.requires.1.1)
+    omega (arith, rw (tested (goal.at.bounds-list-k c).After-exceeds ∙ c.if-exceeds.true) at c.requires.fact_3)
 
 pub returns-then-exceeds : goal.returns-then-exceeds
 returns-then-exceeds c =
-    let set = c.before.before.before in
-    let pack = set.before.before.before in
-    let then = pack.before in
     let pixel = c.pixel_at-p.ensures in
-    rw (tested then.before ∙ c.if-exceeds.true)
-    (refl, (c.set_pixel.ensures ∙ rw (c.lower.ensures, pixel), rw (c.pack.ensures, pixel)))
+    rw (tested (goal.at.returns-then-exceeds c).After-exceeds ∙ c.if-exceeds.true)
+    (record { value = refl; picture_after = c.set_pixel.ensures ∙ rw (c.lower.ensures, pixel); list_after = rw (c.pack.ensures, pixel) })
 
 pub returns : goal.returns
-returns c = let a = c.before.before.before.before.before.args in
-    let passes = tested c.before ∙ c.if-exceeds.false in let f = rw passes (omega arith, (sym (ap (with_pixel a.picture.now a.i) (kept (pixel_at a.picture.now a.i) passes) ∙ same_pixel a.picture.now a.i), refl)) in record { value = f.0; picture_after = f.1.0; list_after = f.1.1 }
+returns c =
+    let a = c.args in
+    let passes = tested (goal.at.returns c).After-exceeds ∙ c.if-exceeds.false in
+    rw passes
+    (record {
+      value = omega arith;
+      picture_after = sym (ap (with_pixel a.picture.now a.i) (kept (pixel_at a.picture.now a.i) passes) ∙ same_pixel a.picture.now a.i);
+      list_after = refl;
+    })
