@@ -1,5 +1,5 @@
 -- The plate file: its table, its bodies and its rules, on a list of bytes.
-use Rattle.std.specs.Prelude.{Bool, true, not, cond, ◌&&◌, List, ℕ, zero, suc, ◌+◌, ◌*◌, leb, eqb, length, get_or}
+use Rattle.std.specs.Prelude.{Bool, true, not, cond, ◌&&◌, List, ℕ, zero, suc, ◌+◌, ◌*◌, leb, eqb, length}
 use Rattle.picture.specs.Refusal.{sides_outside, wrong_length}
 use Rattle.plate_numbers.specs.Numbers.{u16_at, u32_at, version, count, known_to, newest, labelled, entry_size, largest_side, largest_whole, wrong_unit}
 use Rattle.plate_format.specs.declared.Entry.{Entry}

@@ -34,9 +34,9 @@ module _ (buffer : List ℕ) (used : ℕ) (picture : List ℕ) (w h : ℕ) (labe
       wrong_length_lem l = rw (p, s, l)
 
       module _ (l : wrong_length (length picture) w h ≡ false) where
-        pub no_room : no_room (length buffer) (in_use buffer used) w h ≡ true → answered 13 (grown buffer 0) ≡ add_outcome buffer used picture w h label
+        pub no_room_lem : no_room (length buffer) (in_use buffer used) w h ≡ true → answered 13 (grown buffer 0) ≡ add_outcome buffer used picture w h label
         unfolding add_outcome first_of first_else settled
-        no_room r = rw (p, s, l, r)
+        no_room_lem r = rw (p, s, l, r)
 
         pub add_done : no_room (length buffer) (in_use buffer used) w h ≡ false →
             answered 0 (grown (laid (added (in_use buffer used) w h label picture) buffer) (length_after (in_use buffer used) w h)) ≡ add_outcome buffer used picture w h label

@@ -8,8 +8,5 @@ use Rattle.opaque.proofs.mixed.Goals as goal
 
 pub returns : goal.returns
 returns c e =
-    let pack = c.before.before.before.before.before in
-    let known = pack.before.before.before in
-    let s = known.before in
-    opaque_words s.args.block.now _ (length s.args.words.now) (λ i. omega (arith, (known.shared-slice-known.given i).fits)) s.requires c.pack_pixels.ensures
+    opaque_words c.args.block.now _ (length c.args.words.now) (λ i. omega (arith, c.type_inv.block i)) c.requires c.pack_pixels.ensures
     (λ k l. le_trans (ltb-false _ 4278190080 e) (c.common.ensures k l))

@@ -10,12 +10,7 @@ use Rattle.pam_format.specs.Header.{header}
 use Rattle.pam_format.specs.Format.{begins_with}
 use Rattle.pam_format.proofs.Decimals.{digits_most, length_header}
 use Rattle.pam_format.proofs.has_header.Goals as goal
-use Rattle.pam_format.proofs.has_header.Lts as lts
-use Rattle.pam_format.proofs.has_header.Reads as reads
-use Rattle.pam_format.proofs.has_header.Tie as tie
-
-abbrev the_After-write_header-end : Type 0
-the_After-write_header-end = lts.After-write_header tie.the-claims reads.Pre reads.Post
+use Rattle.pam_format.proofs.has_header.Goals.{After-write_header-end}
 
 -- the array has room for every header
 fits : (w h : ℕ) → length (header w h) ≤ 80
@@ -25,9 +20,9 @@ pub write_header-end-requires : goal.write_header-end-requires
 write_header-end-requires c = fits _ _
 
 -- what is compared is the header
-head-is : (c : the_After-write_header-end) → let a = c.args in take c.write_header-end.result c.write_header-end.new.0 ≡ header a.w a.h
+head_is : (c : After-write_header-end) → let a = c.args in take c.write_header-end.result c.write_header-end.new.line ≡ header a.w a.h
 unfolding laid
-head-is c =
+head_is c =
     let a = c.args in
     rw (c.write_header-end.ensures.0, c.write_header-end.ensures.1) (take-append_seam (header a.w a.h) _)
 
@@ -35,12 +30,11 @@ pub slice_bounds-line-end : goal.slice_bounds-line-end
 slice_bounds-line-end c = let a = c.args in omega (arith, c.write_header-end.ensures.0, fits a.w a.h)
 
 pub slice_bounds-starts_with-end : goal.slice_bounds-starts_with-end
-slice_bounds-starts_with-end c = let w = c.before.before.before in c.write_header-end.ensures.0 ∙ ap length (sym (head-is w))
+slice_bounds-starts_with-end c = c.write_header-end.ensures.0 ∙ ap length (sym (head_is (goal.at.slice_bounds-starts_with-end c).After-write_header-end))
 
 pub starts_with-requires : goal.starts_with-requires
-starts_with-requires c = let w = c.before.before.before in rw (head-is w) c.requires
+starts_with-requires c = rw (head_is (goal.at.starts_with-requires c).After-write_header-end) c.requires
 
 pub returns : goal.returns
 returns c =
-    let w = c.before.before.before.before in
-    c.starts_with.ensures ∙ ap (λ (head : List ℕ). begins_with head c.args.file.now) (head-is w)
+    c.starts_with.ensures ∙ ap (λ (head : List ℕ). begins_with head c.args.file.now) (head_is (goal.at.returns c).After-write_header-end)

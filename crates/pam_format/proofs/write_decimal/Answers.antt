@@ -8,10 +8,6 @@ use Rattle.pam_format.specs.Header.{digit_count, digit, decimal}
 use Rattle.pam_format.proofs.Decimals.{digits_most}
 use Rattle.pam_format.proofs.write_decimal.Goals as goal
 
--- digit i from the front
-abbrev nth : ℕ → ℕ → ℕ
-nth n i = digit n (digit_count n - suc i)
-
 pub digit-requires : goal.digit-requires
 digit-requires c = omega (arith, digits_most c.args.n)
 
@@ -24,7 +20,7 @@ loop-i-preserved c =
 pub returns : goal.returns
 unfolding decimal
 returns c =
-    fills_build c.loop-i.invariant (omega arith) ∙ ap (λ (k : ℕ). build k (nth c.args.n)) c.requires
+    fills_build c.loop-i.invariant (omega arith) ∙ ap (λ (k : ℕ). build k (λ (i : ℕ). digit c.args.n (digit_count c.args.n - suc i))) c.requires
 
 pub loop-i-init : goal.loop-i-init
 loop-i-init c = fills_none

@@ -3,7 +3,7 @@ use mathlib.Core.Path.{◌≡◌, ◌∙◌, sym}
 use mathlib.Core.Bool.{true}
 use Prim.Native.Nat.{◌<◌}
 use native.Mathlib.Omega.{arith}
-use borrow.Author.Tests.{not-true, not-false, le-leb}
+use borrow.Author.Tests.{le-leb}
 use Rattle.plate_numbers.specs.Numbers.{count}
 use Rattle.plate_format.specs.Format.{is_plate}
 use Rattle.plate_format.proofs.Rules.{plate_tabled}
@@ -20,10 +20,10 @@ abbrev the_Else-count-i : Type 0
 the_Else-count-i = lts.Else2 tie.the-claims reads.Pre reads.Post
 
 pub returns-then-not-is_plate : goal.returns-then-not-is_plate
-returns-then-not-is_plate c = broken _ _ (sym c.is_plate.ensures ∙ not-true _ c.if-not-is_plate.true)
+returns-then-not-is_plate c = broken _ _ (sym c.is_plate.ensures ∙ c.if-not-is_plate.true)
 
 plate : (c : the_Else-not-is_plate) → is_plate c.args.plate.now ≡ true
-plate c = sym c.is_plate.ensures ∙ not-false _ c.if-not-is_plate.false
+plate c = sym c.is_plate.ensures ∙ c.if-not-is_plate.false
 
 pub count-requires : goal.count-requires
 count-requires c = omega (arith, (plate_tabled _ (plate c.before)).inside)

@@ -32,4 +32,4 @@ returns c =
     let s = c.before.before.before in
     let a = c.args in
     let l = (looked_up a.plate.now a.index).left in
-    rw (answered s, add-sub_cancel_left l.offset l.length, add_comm l.offset a.plate.ptr.1)
+    rw (answered s, add-sub_cancel_left l.offset l.length, add_comm l.offset a.plate.ref_ptr.1)

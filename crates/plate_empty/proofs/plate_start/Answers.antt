@@ -3,7 +3,7 @@ use mathlib.Core.Path.{◌≡◌, ◌∙◌, sym, ap}
 use mathlib.Core.Bool.{true}
 use mathlib.Core.List.{List}
 use native.Mathlib.Omega.{arith}
-use borrow.Author.Tests.{not-true, not-false, lt-ltb, le-ltb}
+use borrow.Author.Tests.{lt-ltb, le-ltb}
 use lib.ListN.{length}
 use Rattle.picture.specs.Answer.{answered}
 use Rattle.plate_numbers.specs.Numbers.{known}
@@ -19,10 +19,10 @@ abbrev the_Else-not-known : Type 0
 the_Else-not-known = lts.Else1 tie.the-claims reads.Pre reads.Post
 
 pub returns-then-not-known : goal.returns-then-not-known
-returns-then-not-known c = unknown _ _ (sym c.known.ensures ∙ not-true _ c.if-not-known.true)
+returns-then-not-known c = unknown _ _ (sym c.known.ensures ∙ c.if-not-known.true)
 
 is_known : (c : the_Else-not-known) → known c.args.version ≡ true
-is_known c = sym c.known.ensures ∙ not-false _ c.if-not-known.false
+is_known c = sym c.known.ensures ∙ c.if-not-known.false
 
 pub returns-then-buffer-lt-HEADER : goal.returns-then-buffer-lt-HEADER
 returns-then-buffer-lt-HEADER c = too_small _ _ (is_known c.before.before) (lt-ltb (length c.args.buffer.now) 4 (omega arith))

@@ -1,10 +1,8 @@
 use mathlib.Core.Path.{◌≡◌, refl, ◌∙◌, sym}
-use mathlib.Core.Bool.{true, true≢false}
-use Prim.Native.Nat.{◌-◌}
+use mathlib.Core.Bool.{true≢false}
 use native.Mathlib.Numerals.{add-one}
 use native.Mathlib.Omega.{arith}
 use borrow.Author.Rules.{rules}
-use borrow.Author.Tests.{not-true, not-false}
 use Rattle.plate_numbers.specs.Numbers.{count}
 use Rattle.plate_format.specs.Format.{body_offset, entry_obeys, all_below, filled}
 use Rattle.plate_format.proofs.Tests.{refuted}
@@ -33,13 +31,13 @@ pub returns-then-not-obeys : goal.returns-then-not-obeys
 returns-then-not-obeys c =
     let b = c.before.before in
     refuted _
-    (λ h. true≢false (sym ((filled_is _ h).obeyed c.loop-i.i (omega arith)) ∙ sym (asked b) ∙ not-true _ c.if-not-obeys.true))
+    (λ h. true≢false (sym ((filled_is _ h).obeyed c.loop-i.i (omega arith)) ∙ sym (asked b) ∙ c.if-not-obeys.true))
 
 pub loop-i-preserved : goal.loop-i-preserved
 unfolding body_offset all_below
 loop-i-preserved c =
     let b = c.before.before.before in
-    let obeyed = sym (asked b) ∙ not-false _ c.if-not-obeys.false in
+    let obeyed = sym (asked b) ∙ c.if-not-obeys.false in
     (search rules, rw (add-one, c.loop-i.invariant.1, c.read_entry-e.ensures), search rules, rw (add-one, c.loop-i.invariant.3) obeyed)
 
 pub returns : goal.returns

@@ -2,8 +2,6 @@
 use mathlib.Core.Path.{◌≡◌, ◌∙◌, sym, ap}
 use mathlib.Core.Bool.{true≢false}
 use native.Mathlib.Omega.{arith}
-use borrow.Author.Rules.{rules}
-use borrow.Author.Tests.{not-true, not-false}
 use Rattle.plate_numbers.specs.Numbers.{version, count, known, largest_whole}
 use Rattle.plate_format.specs.Format.{max_count, entry_at}
 use Rattle.plate_format.proofs.Tests.{refuted}
@@ -26,7 +24,7 @@ pub returns-then-not-known : goal.returns-then-not-known
 returns-then-not-known c =
     refuted _
     (λ h.
-    true≢false (sym (rules _ h).version_is ∙ ap known (sym c.version-v.ensures) ∙ sym c.known.ensures ∙ not-true _ c.if-not-known.taken))
+    true≢false (sym (rules _ h).version_is ∙ ap known (sym c.version-v.ensures) ∙ sym c.known.ensures ∙ c.if-not-known.true))
 
 pub returns-then-n-gt-MAX_COUNT : goal.returns-then-n-gt-MAX_COUNT
 unfolding max_count
@@ -58,4 +56,4 @@ unfolding max_count
 returns c =
     let l = c.before.before.before.before.before in
     c.filled.ensures
-    ∙ decides _ (ap known (sym c.version-v.ensures) ∙ sym c.known.ensures ∙ not-false _ c.if-not-known.left) (omega (arith, c.count-n.ensures)) (omega (arith, limit l))
+    ∙ decides _ (ap known (sym c.version-v.ensures) ∙ sym c.known.ensures ∙ c.if-not-known.false) (omega (arith, c.count-n.ensures)) (omega (arith, limit l))

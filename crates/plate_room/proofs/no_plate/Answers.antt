@@ -3,7 +3,7 @@ use mathlib.Core.Path.{◌≡◌, ◌∙◌, sym}
 use mathlib.Core.Bool.{true}
 use native.Mathlib.Nat.{sub-zero}
 use native.Mathlib.Omega.{arith}
-use borrow.Author.Tests.{lt-ltb, le-ltb, not-true, not-false}
+use borrow.Author.Tests.{lt-ltb, le-ltb}
 use lib.ListN.{length}
 use Rattle.plate_format.specs.Format.{is_plate}
 use Rattle.plate_format.proofs.Rules.{plate_tabled}
@@ -31,10 +31,10 @@ pub returns-then-not-is_plate : goal.returns-then-not-is_plate
 unfolding no_plate
 returns-then-not-is_plate c =
     let a = c.args in
-    rw (le-ltb (length a.buffer.now) a.used (omega arith), sym (asked c.before.before) ∙ not-true _ c.if-not-is_plate.true)
+    rw (le-ltb (length a.buffer.now) a.used (omega arith), sym (asked c.before.before) ∙ c.if-not-is_plate.true)
 
 plate : (c : the_Else-not-is_plate) → is_plate (in_use c.args.buffer.now c.args.used) ≡ true
-plate c = sym (asked c.before) ∙ not-false _ c.if-not-is_plate.false
+plate c = sym (asked c.before) ∙ c.if-not-is_plate.false
 
 pub version-requires : goal.version-requires
 version-requires c = rw (sub-zero c.args.used) (omega (arith, (plate_tabled _ (plate c.before.before)).inside))

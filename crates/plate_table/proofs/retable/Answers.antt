@@ -6,26 +6,21 @@ use Rattle.plate_numbers.specs.Numbers.{version, count, entry_size}
 use Rattle.plate_format.specs.Format.{entry_at, body_offset}
 use Rattle.plate_table.proofs.Retabled.{retabled}
 use Rattle.plate_table.proofs.retable.Goals as goal
-use Rattle.plate_table.proofs.retable.Goals.{After-table_end-end}
-
--- where the table ended
-end : (c : After-table_end-end) → c.table_end-end.result ≡ entry_at c.before.before.before.before.before.before.before.args.bytes.now (count c.before.before.before.before.before.before.before.args.bytes.now)
-unfolding body_offset
-end c = c.table_end-end.ensures
 
 pub put_entry-requires : goal.put_entry-requires
+unfolding body_offset
 put_entry-requires c =
-    let st = c.before.before.before.before.before.before.before.before.before.before.before.before in
-    let s = entry_size (version st.args.bytes.now) in
-    let room = st.requires.room in
-    let more = add-mul (count st.args.bytes.now) 1 s in
-    let at = end c.before.before.before.before.before in
-    let v = ap entry_size c.before.before.before.before.before.before.before.before.before.version.ensures in
+    let s = entry_size (version c.args.bytes.now) in
+    let room = c.requires.room in
+    let more = add-mul (count c.args.bytes.now) 1 s in
+    let at : c.table_end-end.result ≡ entry_at c.args.bytes.now (count c.args.bytes.now) = c.table_end-end.ensures in
+    let v = ap entry_size c.version-v.ensures in
     let one = one-mul s in
     search rules
 
 pub returns : goal.returns
+unfolding body_offset
 returns c =
-    let e = c.before.before.before.before.before.before.before.before.before.before.before.before.before in
-    let v = e.before.before.before.before.version.ensures in
-    retabled _ e.before.before.before.before.before.before.before.requires _ _ _ _ c.shift_entries.ensures (rw (end e, v) at c.put_entry.ensures) (rw (v, c.count-n.ensures) at c.put_header.ensures)
+    let v = c.version-v.ensures in
+    let at : c.table_end-end.result ≡ entry_at c.args.bytes.now (count c.args.bytes.now) = c.table_end-end.ensures in
+    retabled _ c.requires _ _ _ _ c.shift_entries.ensures (rw (at, v) at c.put_entry.ensures) (rw (v, c.count-n.ensures) at c.put_header.ensures)

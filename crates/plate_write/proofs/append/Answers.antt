@@ -14,74 +14,65 @@ use Rattle.plate_room.specs.Room.{new_entry, in_use}
 use Rattle.plate_empty.specs.Outcome.{grown}
 use Rattle.plate_write.proofs.Appended.{file_long, tabled, first_low, fits, new_fits, opened, opened_ready, appended, length_is}
 use Rattle.plate_write.proofs.append.Goals as goal
-use Rattle.plate_write.proofs.append.Lts as lts
-use Rattle.plate_write.proofs.append.Reads as reads
-use Rattle.plate_write.proofs.append.Tie as tie
-
-abbrev the_After-new_entry-new : Type 0
-the_After-new_entry-new = lts.After-new_entry tie.the-claims reads.Pre reads.Post
-
-abbrev the_After-table_end-end : Type 0
-the_After-table_end-end = lts.After-table_end tie.the-claims reads.Pre reads.Post
-
-abbrev the_After-copy_forward : Type 0
-the_After-copy_forward = lts.After-copy_forward tie.the-claims reads.Pre reads.Post
+use Rattle.plate_write.proofs.append.Goals.{After-new_entry-new, After-table_end-end, After-copy_forward}
 
 pub new_entry-new-requires : goal.new_entry-new-requires
-new_entry-new-requires c = rw (sub-zero c.before.before.before.before.before.args.used) (new_fits c.before.before.before.before.before.requires)
+new_entry-new-requires c = rw (sub-zero c.args.used) (new_fits c.requires)
 
 -- the new entry, where its body starts, and where the bodies start
-entry : (c : the_After-new_entry-new) → let a = c.before.before.before.before.before.args in c.new_entry-new.result ≡ new_entry (in_use a.buffer.now a.used) a.w a.h (beside a.unit a.sheet)
-entry c = c.new_entry-new.ensures ∙ rw (sub-zero c.before.before.before.before.before.args.used)
+entry : (c : After-new_entry-new) → let a = c.args in c.new_entry-new.result ≡ new_entry (in_use a.buffer.now a.used) a.w a.h (beside a.unit a.sheet)
+entry c = c.new_entry-new.ensures ∙ rw (sub-zero c.args.used)
 
-start : (c : the_After-new_entry-new) → let a = c.before.before.before.before.before.args in c.new_entry-new.result.offset ≡ a.used + entry_size (version (in_use a.buffer.now a.used))
-start c = ap (λ (e : Entry). e.offset) (entry c) ∙ rw (file_long c.before.before.before.before.before.requires)
+start : (c : After-new_entry-new) → let a = c.args in c.new_entry-new.result.offset ≡ a.used + entry_size (version (in_use a.buffer.now a.used))
+start c = ap (λ (e : Entry). e.offset) (entry c) ∙ rw (file_long c.requires)
 
 pub table_end-end-requires : goal.table_end-end-requires
-table_end-end-requires c = rw (sub-zero c.before.before.before.before.before.before.before.before.args.used) (tabled c.before.before.before.before.before.before.before.before.requires)
+table_end-end-requires c = rw (sub-zero c.args.used) (tabled c.requires)
 
-end : (c : the_After-table_end-end) → let a = c.before.before.before.before.before.before.before.before.args in c.table_end-end.result ≡ body_offset (in_use a.buffer.now a.used) 0
-end c = c.table_end-end.ensures ∙ rw (sub-zero c.before.before.before.before.before.before.before.before.args.used)
+end : (c : After-table_end-end) → let a = c.args in c.table_end-end.result ≡ body_offset (in_use a.buffer.now a.used) 0
+end c = c.table_end-end.ensures ∙ rw (sub-zero c.args.used)
 
 pub overflow_sub-start : goal.overflow_sub-start
-overflow_sub-start c = omega (arith, start c.before.before.before.before.before.before)
+overflow_sub-start c = omega (arith, start (goal.at.overflow_sub-start c).After-new_entry-new)
 
 pub overflow_add-end : goal.overflow_add-end
 overflow_add-end c =
-    let r = c.before.before.before.before.before.before.before.before.before.before.before.requires in
-    let s = start c.before.before.before.before.before.before in
-    let e = end c.before.before.before in
+    let r = c.requires in
+    let s = start (goal.at.overflow_add-end c).After-new_entry-new in
+    let e = end (goal.at.overflow_add-end c).After-table_end-end in
     let l = first_low r in
     let f = fits r in
     search rules
 
 pub overflow_sub-used : goal.overflow_sub-used
-overflow_sub-used c = omega (arith, end c.before.before.before, first_low c.before.before.before.before.before.before.before.before.before.before.before.requires)
+overflow_sub-used c = omega (arith, end (goal.at.overflow_sub-used c).After-table_end-end, first_low c.requires)
 
 pub copy_forward-requires : goal.copy_forward-requires
 copy_forward-requires c =
-    let r = c.before.before.before.before.before.before.before.before.before.before.before.requires in
-    (omega arith, omega (arith, start c.before.before.before.before.before.before, end c.before.before.before, first_low r, fits r))
+    let r = c.requires in
+    (omega arith, omega (arith, start (goal.at.copy_forward-requires c).After-new_entry-new, end (goal.at.copy_forward-requires c).After-table_end-end, first_low r, fits r))
 
 -- the bodies stand one table entry further on
-opens : (c : the_After-copy_forward) → let a = c.before.before.before.before.before.before.before.before.before.before.before.args in let file = in_use a.buffer.now a.used in
-    c.copy_forward.new.0 ≡ laid_at (body_offset file 0 + entry_size (version file)) (drop (body_offset file 0) file) a.buffer.now
-opens c = opened c.before.before.before.before.before.before.before.before.before.before.before.requires (start c.before.before.before.before.before.before) (rw (end c.before.before.before) at c.copy_forward.ensures)
+opens : (c : After-copy_forward) → let a = c.args in let file = in_use a.buffer.now a.used in
+    c.new_entry-new.result.offset ≡ a.used + entry_size (version file) →
+    c.table_end-end.result ≡ body_offset file 0 →
+    c.copy_forward.new.bytes ≡ laid_at (body_offset file 0 + entry_size (version file)) (drop (body_offset file 0) file) a.buffer.now
+opens c s e = opened c.requires s (rw e at c.copy_forward.ensures)
 
 pub retable-requires : goal.retable-requires
-retable-requires c = opened_ready c.before.before.before.before.before.before.before.before.before.before.before.before.before.before.before.requires (opens c.before.before.before.before)
+retable-requires c = opened_ready c.requires (opens (goal.at.retable-requires c).After-copy_forward (start (goal.at.retable-requires c).After-new_entry-new) (end (goal.at.retable-requires c).After-table_end-end))
 
 pub slice_bounds-copy_bytes-end : goal.slice_bounds-copy_bytes-end
 slice_bounds-copy_bytes-end c =
-    let r = c.before.before.before.before.before.before.before.before.before.before.before.before.before.before.before.before.before.before.requires in
-    let s = start c.before.before.before.before.before.before.before.before.before.before.before.before.before in
+    let r = c.requires in
+    let s = start (goal.at.slice_bounds-copy_bytes-end c).After-new_entry-new in
     let f = fits r in
     let x = r.exact in
     search rules
 
 pub returns : goal.returns
 returns c =
-    let r = c.before.before.before.before.before.before.before.before.before.before.before.before.before.before.before.before.before.before.before.before.before.before.requires in
-    let a = c.before.before.before.before.before.before.before.before.before.before.before.before.before.before.before.before.before.before.before.before.before.before.args in
-    let s = start c.before.before.before.before.before.before.before.before.before.before.before.before.before.before.before.before.before in
-    ap₂ grown (appended r (opens c.before.before.before.before.before.before.before.before.before.before.before) (beside a.unit a.sheet) s (rw (entry c.before.before.before.before.before.before.before.before.before.before.before.before.before.before.before.before.before) at c.retable.ensures) (rw c.copy_bytes.ensures)) (length_is r s)
+    let r = c.requires in
+    let a = c.args in
+    let s = start (goal.at.returns c).After-new_entry-new in
+    ap₂ grown (appended r (opens (goal.at.returns c).After-copy_forward (start (goal.at.returns c).After-new_entry-new) (end (goal.at.returns c).After-table_end-end)) (beside a.unit a.sheet) s (rw (entry (goal.at.returns c).After-new_entry-new) at c.retable.ensures) (rw c.copy_bytes.ensures)) (length_is r s)

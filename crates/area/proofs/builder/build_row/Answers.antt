@@ -19,24 +19,20 @@ overflow_cast-picture c = Fits-widen tt (c.shared_slice_known-in-loop-x-1.given 
 
 pub corner-above-requires : goal.corner-above-requires
 corner-above-requires c =
-    let a = c.before.before.before.before.before.before.before.before.args in
-    (omega arith, omega (arith, row_ends a.w a.y))
+    let a = c.args in
+    record { fact_1 = omega arith; fact_2 = omega (arith, row_ends a.w a.y) }
 
 pub loop-x-preserved : goal.loop-x-preserved
 loop-x-preserved c =
-    let corner = c.before.before in
-    let lower = corner.before.before in
-    let turn = lower.before.before.before in
-    let st = turn.before.before.before in
-    let a = st.args in
+    let a = c.args in
     let l = c.loop-x in
     let p = alpha_plane a.picture.now a.w in
-    let row = c.wrapping_add_u32-sum.ensures ∙ sum_step p l.x a.y l.sum _ l.invariant.2 (alpha_at a.picture.now a.w l.x a.y) in
+    let row = c.wrapping_add_u32-sum.ensures.value ∙ sum_step p l.x a.y l.sum _ l.invariant.2 (alpha_at a.picture.now a.w l.x a.y) in
     let above =
     c.corner-above.ensures
     ∙ corner_same a.table.now l.table a.w (l.x + 1) a.y (omega arith) (λ k m. l.invariant.3.below k (omega arith))
-    ∙ st.requires.1.1.1 l.x (omega arith) in
-    let made = c.wrapping_add_u32.ensures ∙ entry_step p (l.x + 1) a.y _ _ above row in
+    ∙ c.requires.fact_4 l.x (omega arith) in
+    let made = c.wrapping_add_u32.ensures.value ∙ entry_step p (l.x + 1) a.y _ _ above row in
     (omega arith, simp length-set l.invariant.1, row, span_more l.invariant.3 (omega arith) (omega (arith, row_ends a.w a.y)) refl made)
 
 pub returns : goal.returns

@@ -4,26 +4,22 @@ use Rattle.area.specs.Area.{alpha_plane, entry, built}
 use Rattle.area.proofs.Entries.{rows_in, row_ends, corner_is}
 use Rattle.area.proofs.Laid.{rows_laid}
 use Rattle.area.proofs.builder.build_rows.Goals as goal
-use Rattle.area.proofs.builder.build_rows.Lts as lts
-use Rattle.area.proofs.builder.build_rows.Reads as reads
-use Rattle.area.proofs.builder.build_rows.Tie as tie
-
-abbrev the_In-loop-y : Type 0
-the_In-loop-y = lts.In-loop tie.the-claims reads.Pre reads.Post goal.the-invariant-loop-y goal.the-decreases-loop-y
 
 pub loop-y-init : goal.loop-y-init
 loop-y-init c = (omega arith, refl, span_none (omega arith))
 
 -- the row that is next ends where the picture does, at the latest
-ends : (c : the_In-loop-y) →
-    let s = c.args.size in
-    (c.loop-y.y + 1) * c.width-w.result ≤ s.w * s.h
-ends c = rows_in c.width-w.ensures c.height-h.ensures (c.loop-y.y + 1) (omega arith)
-
 pub build_row-requires : goal.build_row-requires
-build_row-requires c = let turn = c.before.before in
+build_row-requires c =
     let l = c.loop-y in
-    let w = c.width-w.result in record { fact_1 = omega (arith, c.height-h.ensures, c.requires.fact_1.sized.h_high); fact_2 = omega (arith, ends turn, c.requires.fact_1.exact); fact_3 = omega (arith, ends turn); fact_4 = λ x m. corner_is (alpha_plane c.args.picture.now w) l.table w (x + 1) l.y (omega arith) (λ k lt. span_at l.invariant.2 k (omega arith) (omega arith) lt) }
+    let w = c.width-w.result in
+    let ends = rows_in c.width-w.ensures c.height-h.ensures (l.y + 1) (omega arith) in
+    record {
+      fact_1 = omega (arith, c.height-h.ensures, c.requires.fact_1.sized.h_high);
+      fact_2 = omega (arith, ends, c.requires.fact_1.exact);
+      fact_3 = omega (arith, ends);
+      fact_4 = λ x m. corner_is (alpha_plane c.args.picture.now w) l.table w (x + 1) l.y (omega arith) (λ k lt. span_at l.invariant.2 k (omega arith) (omega arith) lt);
+    }
 
 pub loop-y-preserved : goal.loop-y-preserved
 loop-y-preserved c =

@@ -23,7 +23,7 @@ pub offset_bounds-table-y : goal.offset_bounds-table-y
 offset_bounds-table-y c = record { fits = omega (arith, place c) }
 
 pub bounds-table-y : goal.bounds-table-y
-bounds-table-y c = omega (arith, place c.before.before)
+bounds-table-y c = let a = c.args in omega (arith, before_row a.w a.x a.y (omega arith) (omega arith) (omega arith))
 
 pub returns : goal.returns
 returns c = simp (ne_eqb _ _ c.if-x-eq0.false, ne_eqb _ _ c.if-y-eq0.false)

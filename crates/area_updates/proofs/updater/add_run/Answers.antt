@@ -11,7 +11,7 @@ loop-k-preserved c =
     let l = c.loop-k in
     let a = c.args in
     let kept = l.invariant.3.above l.k (omega arith) in
-    let made = c.wrapping_add_u32.ensures ∙ ap (λ (v : ℕ). (v + a.gain) % top) kept in
+    let made = c.wrapping_add_u32.ensures.value ∙ ap (λ (v : ℕ). (v + a.gain) % top) kept in
     (omega arith, omega arith, simp length-set l.invariant.2, span_more l.invariant.3 (omega arith) (omega arith) (omega arith) made)
 
 pub returns : goal.returns

@@ -1,30 +1,23 @@
 -- The fields one after the other are the entry's bytes.
-use Prim.Native.Nat.{◌+◌, ◌≤◌}
 use native.Mathlib.Omega.{arith}
 use borrow.Author.Rules.{rules}
-use lib.ListN.{length}
 use Rattle.plate_written.specs.Written.{bytes16, bytes32, entry_bytes}
 use Rattle.plate_numbers.proofs.Versions.{entry_room}
 use Rattle.plate_written.proofs.Written.{length_label}
 use Rattle.plate_table.proofs.Laid.{laid_then}
 use Rattle.plate_table.proofs.fields.put_entry.Goals as goal
-use Rattle.plate_table.proofs.fields.put_entry.Goals.{Start}
-
--- the entry's bytes lie within
-room : (c : Start) → c.args.at + 12 ≤ length c.args.bytes.now
-room c = omega (arith, c.requires, entry_room c.args.v)
 
 pub put_u16-requires : goal.put_u16-requires
-put_u16-requires c = omega (arith, room c.before.before)
+put_u16-requires c = omega (arith, c.requires, entry_room c.args.v)
 
 pub put_u16-requires-2 : goal.put_u16-requires-2
-put_u16-requires-2 c = let r = room c.before.before.before.before.before.before in search rules
+put_u16-requires-2 c = let r = entry_room c.args.v in search rules
 
 pub put_u32-requires : goal.put_u32-requires
-put_u32-requires c = let r = room c.before.before.before.before.before.before.before.before.before.before in search rules
+put_u32-requires c = let r = entry_room c.args.v in search rules
 
 pub put_u32-requires-2 : goal.put_u32-requires-2
-put_u32-requires-2 c = let r = room c.before.before.before.before.before.before.before.before.before.before.before.before.before.before in search rules
+put_u32-requires-2 c = let r = entry_room c.args.v in search rules
 
 pub put_label-requires : goal.put_label-requires
 put_label-requires c =
@@ -36,7 +29,8 @@ put_label-requires c =
 pub returns : goal.returns
 unfolding bytes16 bytes32 entry_bytes
 returns c =
-    let r = room c.before.before.before.before.before.before.before.before.before.before.before.before.before.before.before.before.before.before.before.before.before.before in
+    let r = entry_room c.args.v in
+    let q = c.requires in
     let sides = laid_then _ _ _ _ _ c.put_u16.ensures c.put_u16-2.ensures (omega arith) (omega arith) in
     let offset = laid_then _ _ _ _ _ sides c.put_u32.ensures (omega arith) (omega arith) in
     let length = laid_then _ _ _ _ _ offset c.put_u32-2.ensures (omega arith) (omega arith) in
