@@ -1,9 +1,9 @@
 -- The block is filled, and the sums of all its lanes are rounded in one run.
 use mathlib.Core.Path.{sym}
-use Prim.Native.Nat.{ℕ, ◌+◌, ◌-◌, ◌*◌, ◌/◌, ◌≤◌}
+use Prim.Native.Nat.{◌+◌, ◌-◌, ◌*◌, ◌/◌, ◌≤◌}
 use native.Mathlib.Nat.{add-mul, mul-le-mul_right, zero-mul}
 use native.Mathlib.Omega.{arith}
-use lib.ListN.{length, get_or}
+use lib.ListN.{length}
 use Rattle.edges.specs.Edges.{Reach}
 use Rattle.passes.proofs.Taps.{few_taps}
 use Rattle.blocks.proofs.Progress.{made_in, made_run}
@@ -11,13 +11,7 @@ use Rattle.blocks.proofs.Places.{whole_place, whole_at}
 use Rattle.block_sums.proofs.Taps.{block_reach, taps_room}
 use Rattle.block_sums.proofs.Bytes.{Filled, lane_byte, lane_nonneg}
 use Rattle.block_sums.proofs.convolve_whole.Goals as goal
-use Rattle.block_sums.proofs.convolve_whole.Goals.{Start}
-use Rattle.block_sums.proofs.convolve_whole.Lts as lts
-use Rattle.block_sums.proofs.convolve_whole.Reads as reads
-use Rattle.block_sums.proofs.convolve_whole.Tie as tie
-
-abbrev the_After-fill_whole : Type 0
-the_After-fill_whole = lts.After-fill_whole tie.the-claims reads.Pre reads.Post tie.handed_clauses
+use Rattle.block_sums.proofs.convolve_whole.Goals.{Start, After-fill_whole}
 
 module _ (s : Start) where
   reach : let a = s.args in let k = length a.weights.now in Reach a.len (a.x + (a.m + (k - 1))) (k / 2)
@@ -29,50 +23,51 @@ module _ (s : Start) where
       let a = s.args in
       omega (arith, add-mul a.x a.m a.stride, mul-le-mul_right a.stride s.requires.fact_2.1, s.requires.fact_3)
 
--- where the function starts, from its first call
-abbrev start : the_After-fill_whole → Start
-start t = t.before.before.before.before.before.before
-
-module _ (t : the_After-fill_whole) where
-  bytes : (k : ℕ) → get_or t.args.src.now k 0 ≤ 255
-  bytes k = omega (arith, (t.shared_slice_known-1.given k).fits)
-
-  filled : let a = t.args in
-      Filled a.mode a.weights.now a.src.now a.start a.len a.stride 0 a.stride a.x a.m t.fill_whole.last.0
-  filled = record { value = t.fill_whole.ensures.makes }
+filled : (c : After-fill_whole) → let a = c.args in Filled a.mode a.weights.now a.src.now a.start a.len a.stride 0 a.stride a.x a.m c.fill_whole.new.line
+filled c = record { value = c.fill_whole.ensures.makes }
 
 pub fill_whole-requires : goal.fill_whole-requires
-fill_whole-requires c = let s = c.before.before.before.before.before.before in
-    let few = few_taps _ c.requires.fact_1.kernel.counted in record { fact_1 = (omega (arith, c.requires.fact_2), omega (arith, c.requires.fact_2), c.requires.fact_1.stride_low); fact_2 = c.requires.fact_4; fact_3 = c.requires.fact_1.end; fact_4 = reach s }
+fill_whole-requires c =
+    let few = few_taps _ c.requires.fact_1.kernel.counted in
+    record {
+      fact_1 = (omega (arith, c.requires.fact_2), omega (arith, c.requires.fact_2), c.requires.fact_1.stride_low);
+      fact_2 = c.requires.fact_4;
+      fact_3 = c.requires.fact_1.end;
+      fact_4 = reach (goal.at.fill_whole-requires c).Start;
+    }
 
 pub weigh-requires : goal.weigh-requires
-weigh-requires c = let t = c.before.before.before.before.before in
-    let s = start t in
+weigh-requires c =
+    let g = goal.at.weigh-requires c in
     let a = c.args in
-    let k = c.requires.fact_1.kernel in record { fact_1 = ends s; fact_2 = record {
+    let k = c.requires.fact_1.kernel in
+    record {
+      fact_1 = ends g.Start;
+      fact_2 = record {
         reaches = record {
           some = (few_taps _ k.counted).0;
-          last = omega (arith, taps_room a.m (length a.weights.now) a.stride (few_taps _ k.counted).0, c.requires.fact_4, c.fill_whole.auto.0);
+          last = omega (arith, taps_room a.m (length a.weights.now) a.stride (few_taps _ k.counted).0, c.requires.fact_4, c.fill_whole.auto.line);
         };
-        nonnegative = λ i h. lane_nonneg (filled t) k c.requires.fact_1.stride_low 0 i (sym (zero-mul a.stride)) (omega (arith, zero-mul a.stride)) (bytes t);
-      } }
+        nonnegative = λ i h.
+            lane_nonneg (filled g.After-fill_whole) k c.requires.fact_1.stride_low 0 i (sym (zero-mul a.stride)) (omega (arith, zero-mul a.stride)) (λ j. omega (arith, c.type_inv.src j));
+      };
+    }
 
 pub returns : goal.returns
 returns c =
-    let w = c.before.before.before in
-    let t = w.before.before.before.before.before in
     let a = c.args in
     let z = c.requires.fact_1.stride_low in
     made_in
     (made_run c.weigh.ensures
-    (λ k h. lane_byte (filled t) c.requires.fact_1.kernel z 0 k (sym (zero-mul a.stride)) (omega (arith, zero-mul a.stride)) _ (whole_at a.stride a.x a.m z k)))
+    (λ k h.
+    lane_byte (filled (goal.at.returns c).After-fill_whole) c.requires.fact_1.kernel z 0 k (sym (zero-mul a.stride)) (omega (arith, zero-mul a.stride)) _ (whole_at a.stride a.x a.m z k)))
     (λ j r. whole_place a.stride a.x a.m z j r.0 r.1)
 
 pub overflow_sub-more : goal.overflow_sub-more
 overflow_sub-more c = omega (arith, few_taps _ c.requires.fact_1.kernel.counted)
 
 pub overflow_add-m : goal.overflow_add-m
-overflow_add-m c = omega (arith, (reach c.before.before.before.before.before.before).c_high)
+overflow_add-m c = omega (arith, (reach (goal.at.overflow_add-m c).Start).c_high)
 
 pub overflow_mul-x : goal.overflow_mul-x
-overflow_mul-x c = omega (arith, ends c.before.before.before.before.before.before.before.before.before.before)
+overflow_mul-x c = omega (arith, ends (goal.at.overflow_mul-x c).Start)
