@@ -7,12 +7,6 @@ use Rattle.gaussian_blur.specs.Needs.{BlurAccepted}
 use Rattle.gaussian_blur.specs.Outcome.{blur_outcome}
 use Rattle.gaussian_blur.proofs.Outcomes.{accepted}
 use Rattle.gaussian_blur.proofs.blur.Goals as goal
-use Rattle.gaussian_blur.proofs.blur.Lts as lts
-use Rattle.gaussian_blur.proofs.blur.Reads as reads
-use Rattle.gaussian_blur.proofs.blur.Tie as tie
-
-abbrev the_Else-r-ne0 : Type 0
-the_Else-r-ne0 = lts.Else1 tie.the-claims reads.Pre reads.Post
 
 pub returns-then-r-ne0 : goal.returns-then-r-ne0
 unfolding blur_outcome
@@ -20,17 +14,11 @@ returns-then-r-ne0 c =
     let f = c.if-r-ne0.true in
     rw c.blur_refusal-r.ensures (refused _ _ _ (λ e. f (c.blur_refusal-r.ensures ∙ e)))
 
--- nothing was refused
-fine : (c : the_Else-r-ne0) → let a = c.args in (wrong_sides a.w a.h ≡ false) × BlurAccepted a.w a.h a.picture.now a.scratch.now a.weights.now
-fine c =
-    let a = c.args in
-    accepted a.picture.now a.w a.h a.scratch.now a.weights.now a.n a.strength a.edge (sym c.if-r-ne0.false ∙ c.blur_refusal-r.ensures)
-
 pub full_size-size-requires : goal.full_size-size-requires
-full_size-size-requires c = (fine c.before).0
+full_size-size-requires c = let a = c.args in (accepted a.picture.now a.w a.h a.scratch.now a.weights.now a.n a.strength a.edge (sym c.if-r-ne0.false ∙ c.blur_refusal-r.ensures)).0
 
 pub blur_accepted-requires : goal.blur_accepted-requires
-blur_accepted-requires c = rw c.full_size-size.ensures (fine c.before.before.before.before.before).1
+blur_accepted-requires c = let a = c.args in rw c.full_size-size.ensures (accepted a.picture.now a.w a.h a.scratch.now a.weights.now a.n a.strength a.edge (sym c.if-r-ne0.false ∙ c.blur_refusal-r.ensures)).1
 
 pub returns : goal.returns
 unfolding blur_outcome

@@ -11,74 +11,46 @@ use Rattle.edges.specs.Edges.{place, Below}
 use Rattle.edges.proofs.Places.{below}
 use Rattle.grid_sums.proofs.Lanes.{run_still, lane_inner, lane_inside, lane_outside}
 use Rattle.grid_sums.proofs.add_sample.Goals as goal
-use Rattle.grid_sums.proofs.add_sample.Goals.{Start}
-use Rattle.grid_sums.proofs.add_sample.Lts as lts
-use Rattle.grid_sums.proofs.add_sample.Reads as reads
-use Rattle.grid_sums.proofs.add_sample.Tie as tie
-
-abbrev the_After-add_tap-arg-1 : Type 0
-the_After-add_tap-arg-1 = lts.After-add_tap-arg tie.the-claims reads.Pre reads.Post tie.handed_clauses
-
-abbrev the_After-add_tap-arg-in-Inside-1 : Type 0
-the_After-add_tap-arg-in-Inside-1 = lts.After-add_tap-arg2 tie.the-claims reads.Pre reads.Post tie.handed_clauses
+use Rattle.grid_sums.proofs.add_sample.Goals.{In-Inside}
 
 -- a sum with a sample in its numerator
 more : (a k : ℕ) {v w : ℕ} → v ≡ w → a + v * k ≡ a + w * k
 more a k e = ap (λ (b : ℕ). a + b * k) e
 
--- the inner run ends within the line
-inner_ends : (c : the_After-add_tap-arg-1) →
-    let a = c.args in
-    (a.d ≤ a.c) × ((a.c - a.d) * a.stride + a.from + a.n ≤ a.len * a.stride)
-inner_ends c = c.requires.fact_5.inside c.if-inner.true
-
-inner-fits : (c : the_After-add_tap-arg-1) →
-    let a = c.args in
-    (a.start + ((a.c - a.d) * a.stride + a.from) + a.n ≤ length a.src.now) × (length a.src.now < 2 ^ 64)
-inner-fits c =
-    (omega (arith, inner_ends c, c.requires.fact_3), c.well_formed.1.1.0.0)
-
--- where the function starts, from the element that is found
-abbrev start : the_After-add_tap-arg-in-Inside-1 → Start
-start c = c.before.before.before.before.before.before.before.before
-
-module _ (c : the_After-add_tap-arg-in-Inside-1) where
-  is-inside : let a = c.args in place a.mode a.len a.c a.d ≡ Inside c.in-Inside.i
-  is-inside = sym c.extend.ensures ∙ c.in-Inside.is
+module _ (c : In-Inside) where
+  is_inside : let a = c.args in place a.mode a.len a.c a.d ≡ Inside c.in-Inside.i
+  is_inside = sym c.extend.ensures ∙ c.in-Inside.is
 
   narrow : let a = c.args in a.from + a.n ≤ a.stride
   narrow = c.requires.fact_5.edge c.if-inner.false
 
-  one-ends : let a = c.args in
+  one_ends : let a = c.args in
       (a.start + (c.in-Inside.i * a.stride + a.from) + a.n ≤ length a.src.now) × (length a.src.now < 2 ^ 64)
-  one-ends =
-      let s = start c in
+  one_ends =
       let a = c.args in
       let i = c.in-Inside.i in
-      let low : i < a.len = subst (λ (p : At). Below p a.len) is-inside (below a.mode a.len a.c a.d c.requires.fact_4.s_low) in
-      (omega (arith, within 0 a.stride i a.len low, c.requires.fact_3, narrow), s.good.1.1.0.0)
+      let low : i < a.len = subst (λ (p : At). Below p a.len) is_inside (below a.mode a.len a.c a.d c.requires.fact_4.s_low) in
+      (omega (arith, within 0 a.stride i a.len low, c.requires.fact_3, narrow), c.well_formed.1.1.0.0)
 
 pub add_tap-requires : goal.add_tap-requires
-add_tap-requires c = record { fact_1 = c.requires.fact_1.0; fact_2 = (inner-fits c.before).0; fact_3 = c.requires.fact_1.1; fact_4 = c.requires.fact_2 }
+add_tap-requires c = record { fact_1 = c.requires.fact_1.0; fact_2 = omega (arith, c.requires.fact_5.inside c.if-inner.true); fact_3 = c.requires.fact_1.1; fact_4 = c.requires.fact_2 }
 
 pub add_tap-requires-in-Inside : goal.add_tap-requires-in-Inside
-add_tap-requires-in-Inside c = (c.requires.fact_1.0, ((one-ends c.before).0, (c.requires.fact_1.1, c.requires.fact_2)))
+add_tap-requires-in-Inside c = record { fact_1 = c.requires.fact_1.0; fact_2 = (one_ends (goal.at.add_tap-requires-in-Inside c).In-Inside).0; fact_3 = c.requires.fact_1.1; fact_4 = c.requires.fact_2 }
 
 pub returns-then-inner : goal.returns-then-inner
 returns-then-inner c =
-    let t = c.before.before.before in
-    let u = t.before in
+    let ends = c.requires.fact_5.inside c.if-inner.true in
     let a = c.args in
     span_same c.add_tap.ensures
-    (λ i l h. more _ a.k (lane_inner a.mode a.src.now a.start a.len a.stride a.from a.c a.d i a.n c.requires.fact_3.0 (inner_ends u).0 (inner_ends u).1 h))
+    (λ i l h. more _ a.k (lane_inner a.mode a.src.now a.start a.len a.stride a.from a.c a.d i a.n c.requires.fact_3.0 ends.0 ends.1 h))
 
 pub returns-in-Inside : goal.returns-in-Inside
 returns-in-Inside c =
-    let t = c.before.before.before in
-    let u = t.before in
+    let u = (goal.at.returns-in-Inside c).In-Inside in
     let a = c.args in
     span_same c.add_tap-in-Inside.ensures
-    (λ i l h. more _ a.k (lane_inside a.mode a.src.now a.start a.len a.stride a.from a.c a.d i (omega (arith, narrow u)) _ (is-inside u)))
+    (λ i l h. more _ a.k (lane_inside a.mode a.src.now a.start a.len a.stride a.from a.c a.d i (omega (arith, narrow u)) _ (is_inside u)))
 
 pub returns-in-Outside : goal.returns-in-Outside
 returns-in-Outside c =
@@ -91,22 +63,22 @@ returns-in-Outside c =
     (lane_outside a.mode a.src.now a.start a.len a.stride a.from a.c a.d i (omega (arith, c.requires.fact_5.edge c.if-inner.false)) (sym c.extend.ensures ∙ c.in-Outside.is)))
 
 pub overflow_sub-c : goal.overflow_sub-c
-overflow_sub-c c = (inner_ends c.before).0
+overflow_sub-c c = (c.requires.fact_5.inside c.if-inner.true).0
 
 pub overflow_mul-c : goal.overflow_mul-c
-overflow_mul-c c = omega (arith, inner-fits c.before)
+overflow_mul-c c = omega (arith, c.requires.fact_5.inside c.if-inner.true)
 
 pub overflow_add-c : goal.overflow_add-c
-overflow_add-c c = omega (arith, inner-fits c.before)
+overflow_add-c c = omega (arith, c.requires.fact_5.inside c.if-inner.true)
 
 pub overflow_add-start : goal.overflow_add-start
-overflow_add-start c = omega (arith, inner-fits c.before)
+overflow_add-start c = omega (arith, c.requires.fact_5.inside c.if-inner.true)
 
 pub overflow_mul-i : goal.overflow_mul-i
-overflow_mul-i c = omega (arith, one-ends c.before)
+overflow_mul-i c = omega (arith, one_ends (goal.at.overflow_mul-i c).In-Inside)
 
 pub overflow_add-i : goal.overflow_add-i
-overflow_add-i c = omega (arith, one-ends c.before)
+overflow_add-i c = omega (arith, one_ends (goal.at.overflow_add-i c).In-Inside)
 
 pub overflow_add-start-in-Inside : goal.overflow_add-start-in-Inside
-overflow_add-start-in-Inside c = omega (arith, one-ends c.before)
+overflow_add-start-in-Inside c = omega (arith, one_ends (goal.at.overflow_add-start-in-Inside c).In-Inside)

@@ -8,20 +8,10 @@ use Rattle.passes.proofs.Taps.{few_taps}
 use Rattle.grid_sums.proofs.Sums.{numerator_fits}
 use Rattle.grid_sums.proofs.Lanes.{part_none, part_more, part_all, part_fits}
 use Rattle.grid_sums.proofs.add_taps.Goals as goal
-use Rattle.grid_sums.proofs.add_taps.Goals.{Start}
-use Rattle.grid_sums.proofs.add_taps.Lts as lts
-use Rattle.grid_sums.proofs.add_taps.Reads as reads
-use Rattle.grid_sums.proofs.add_taps.Tie as tie
+use Rattle.grid_sums.proofs.add_taps.Goals.{At-loop-j}
 
-abbrev the_At-loop-j : Type 0
-the_At-loop-j = lts.At-loop tie.the-claims reads.Pre reads.Post tie.handed_clauses goal.the-invariant-loop-j goal.the-decreases-loop-j
-
--- where the function starts, from the loop's head
-abbrev start : the_At-loop-j → Start
-start l = l.before.before.before.before.before.before.before.before
-
-kept : (l : the_At-loop-j) → length l.loop-j.acc ≡ length l.args.acc.now
-kept l = l.loop-j.invariant.1 ∙ l.clear_sums.auto.0
+kept : (l : At-loop-j) → length l.loop-j.acc ≡ length l.args.acc.now
+kept l = l.loop-j.invariant.1 ∙ l.clear_sums.auto.acc
 
 pub loop-j-init : goal.loop-j-init
 loop-j-init c =
@@ -32,20 +22,20 @@ loop-j-init c =
     )
 
 pub add_sample-requires : goal.add_sample-requires
-add_sample-requires c = let t = c.before.before.before in
-    let l = t.before in
+add_sample-requires c =
+    let l = (goal.at.add_sample-requires c).At-loop-j in
     let a = c.args in
     let j = c.loop-j.j in
     let r = c.requires.fact_3 in
     let k = c.requires.fact_2 in
     let few = few_taps _ k.counted in
-    let bytes : (b : ℕ) → get_or a.src.now b 0 ≤ 255 = λ b. omega (arith, (c.shared_slice_known-1.given b).fits) in record { fact_1 = (omega (arith, kept l, c.requires.fact_1), numerator_fits k j c.loop-j-test.true); fact_2 = (λ i h. omega (arith, c.loop-j.invariant.2 i h, part_fits a.mode a.numerators.now a.src.now a.start a.len a.stride a.x a.from i k bytes j (omega arith))); fact_3 = (r.stride_low, r.end); fact_4 = record { s_low = omega (arith, r.x_high); s_high = r.len_high; c_high = omega (arith, room_is, r.x_high, r.len_high); d_high = omega arith }; fact_5 = r.tap j c.loop-j-test.true }
+    let bytes : (b : ℕ) → get_or a.src.now b 0 ≤ 255 = λ b. omega (arith, c.type_inv.src b) in record { fact_1 = (omega (arith, kept l, c.requires.fact_1), numerator_fits k j c.loop-j-test.true); fact_2 = (λ i h. omega (arith, c.loop-j.invariant.2 i h, part_fits a.mode a.numerators.now a.src.now a.start a.len a.stride a.x a.from i k bytes j (omega arith))); fact_3 = (r.stride_low, r.end); fact_4 = record { s_low = omega (arith, r.x_high); s_high = r.len_high; c_high = omega (arith, room_is, r.x_high, r.len_high); d_high = omega arith }; fact_5 = r.tap j c.loop-j-test.true }
 
 pub loop-j-preserved : goal.loop-j-preserved
 loop-j-preserved c =
     let a = c.args in (
       omega (arith, c.loop-j-test.true),
-      c.add_sample.auto.0 ∙ c.loop-j.invariant.1,
+      c.add_sample.auto.acc ∙ c.loop-j.invariant.1,
       (λ i h.
           span_at c.add_sample.ensures i (omega arith) (omega arith) h
           ∙ part_more a.mode a.numerators.now a.src.now a.start a.len a.stride a.x a.from i c.loop-j.j (c.loop-j.invariant.2 i h)),
@@ -62,7 +52,7 @@ pub clear_sums-requires : goal.clear_sums-requires
 clear_sums-requires c = c.requires.fact_1
 
 pub overflow_add-x : goal.overflow_add-x
-overflow_add-x c =  omega (arith, room_is, c.requires.fact_3.x_high, c.requires.fact_3.len_high, few_taps _ c.requires.fact_2.counted)
+overflow_add-x c = omega (arith, room_is, c.requires.fact_3.x_high, c.requires.fact_3.len_high, few_taps _ c.requires.fact_2.counted)
 
 pub shape_of-acc : goal.shape_of-acc
-shape_of-acc c = kept c.before.before
+shape_of-acc c = kept (goal.at.shape_of-acc c).At-loop-j

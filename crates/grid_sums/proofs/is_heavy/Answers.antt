@@ -9,10 +9,10 @@ use Rattle.grid_sums.proofs.Sums.{sum_rest}
 use Rattle.grid_sums.proofs.is_heavy.Goals as goal
 
 pub overflow_cast-total : goal.overflow_cast-total
-overflow_cast-total c = omega (arith, (c.shared_slice_known-1.given c.loop-i.i).fits)
+overflow_cast-total c = omega (arith, c.type_inv.numerators c.loop-i.i)
 
 pub overflow_add-total : goal.overflow_add-total
-overflow_add-total c = omega (arith, (c.shared_slice_known-1.given c.loop-i.i).fits)
+overflow_add-total c = omega (arith, c.type_inv.numerators c.loop-i.i)
 
 pub returns-then-total-gt65536 : goal.returns-then-total-gt65536
 unfolding heavy

@@ -5,22 +5,17 @@ use lib.ListN.{get_or}
 use Rattle.picture.proofs.Spans.{span_none, span_more, span_ends}
 use Rattle.grid_sums.specs.Room.{most_sum}
 use Rattle.grid_sums.proofs.round_sums.Goals as goal
-use Rattle.grid_sums.proofs.round_sums.Lts as lts
-use Rattle.grid_sums.proofs.round_sums.Reads as reads
-use Rattle.grid_sums.proofs.round_sums.Tie as tie
-
-abbrev the_After-shared_slice_known-1 : Type 0
-the_After-shared_slice_known-1 = lts.After-shared_slice_known reads.Pre reads.Post tie.handed_clauses goal.the-invariant-loop-i goal.the-decreases-loop-i
+use Rattle.grid_sums.proofs.round_sums.Goals.{In-loop-i}
 
 -- the sum of a turn has room, and rounds to a byte
-small : (c : the_After-shared_slice_known-1) → get_or c.args.acc.now c.loop-i.i 0 ≤ most_sum
+small : (c : In-loop-i) → get_or c.args.acc.now c.loop-i.i 0 ≤ most_sum
 small c = c.requires.fact_3 c.loop-i.i c.loop-i-test.true
 
 pub overflow_add-dst : goal.overflow_add-dst
-overflow_add-dst c = omega (arith, small c.before)
+overflow_add-dst c = omega (arith, small (goal.at.overflow_add-dst c).In-loop-i)
 
 pub overflow_cast-dst : goal.overflow_cast-dst
-overflow_cast-dst c = omega (arith, small c.before)
+overflow_cast-dst c = omega (arith, small (goal.at.overflow_cast-dst c).In-loop-i)
 
 pub loop-i-preserved : goal.loop-i-preserved
 loop-i-preserved c = (omega arith, span_more c.loop-i.invariant.1 (omega arith) (omega arith) refl refl)

@@ -8,15 +8,14 @@ use Rattle.grid_sums.proofs.Lanes.{grid_fits}
 use Rattle.grid_sums.proofs.weigh.Goals as goal
 
 pub round_sums-requires : goal.round_sums-requires
-round_sums-requires c = let t = c.before.before.before.before.before in
-    let b = t.before.before.before in
-    let s = b.before.before.before in
-    let a = s.args in record { fact_1 = s.requires.0; fact_2 = omega (arith, c.add_taps.auto.0, s.requires.1.0); fact_3 = (λ i h.
-            omega (
-              arith,
-              c.add_taps.ensures i h,
-              grid_fits a.mode a.numerators.now a.src.now a.start a.len a.stride a.x a.from i s.requires.1.1.0 (λ k. omega (arith, (c.shared_slice_known-1.given k).fits)),
-            )) }
+round_sums-requires c =
+    let a = c.args in
+    let p = c.requires in
+    record {
+      fact_1 = p.fact_1;
+      fact_2 = omega (arith, c.add_taps.auto.acc, p.fact_2);
+      fact_3 = (λ i h. omega (arith, c.add_taps.ensures i h, grid_fits a.mode a.numerators.now a.src.now a.start a.len a.stride a.x a.from i p.fact_3 (λ k. omega (arith, c.type_inv.src k))));
+    }
 
 pub returns : goal.returns
 unfolding whole_convolve

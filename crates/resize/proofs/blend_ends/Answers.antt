@@ -1,17 +1,11 @@
 use mathlib.Core.Path.{◌≡◌, refl}
-use Prim.Native.Nat.{ℕ, ◌+◌, ◌-◌, ◌*◌, ◌≤◌, ◌<◌}
+use Prim.Native.Nat.{ℕ, ◌+◌, ◌*◌, ◌≤◌, ◌<◌}
 use native.Mathlib.Omega.{arith}
 use lib.ListN.{length}
 use Rattle.blend.proofs.Tapped.{taps_room}
 use Rattle.resize.proofs.Outputs.{line_lies, parts_none, parts_more, run_from_lem}
 use Rattle.resize.proofs.blend_ends.Goals as goal
 use Rattle.resize.proofs.blend_ends.Goals.{Start}
-use Rattle.resize.proofs.blend_ends.Lts as lts
-use Rattle.resize.proofs.blend_ends.Reads as given
-use Rattle.resize.proofs.blend_ends.Tie as tie
-
-abbrev the_In-loop-y : Type 0
-the_In-loop-y = lts.In-loop tie.the-claims given.Pre given.Post goal.the-invariant-loop-y goal.the-decreases-loop-y
 
 -- a line of those lies within src, and what it becomes within dst
 module _ (st : Start) (y : ℕ) (l : y < st.args.lines) where
@@ -21,21 +15,10 @@ module _ (st : Start) (y : ℕ) (l : y < st.args.lines) where
   writes : let a = st.args in y * (a.out * a.stride) + a.out * a.stride ≤ length a.dst.now
   writes = let a = st.args in line_lies a.dst.now a.lines (a.out * a.stride) y st.requires.dst_length l
 
--- those of a turn
-module _ (c : the_In-loop-y) where
-  abbrev start : Start
-  start = c.before.before.before.before
-
-  turn-reads : let a = start.args in c.loop-y.y * (a.len * a.stride) + a.len * a.stride ≤ length a.src.now
-  turn-reads = reads start c.loop-y.y c.loop-y-test.true
-
-  turn-writes : let a = start.args in c.loop-y.y * (a.out * a.stride) + a.out * a.stride ≤ length a.dst.now
-  turn-writes = writes start c.loop-y.y c.loop-y-test.true
-
 pub blend_element-requires : goal.blend_element-requires
 blend_element-requires c =
-    let t = c.before.before in
-    taps_room c.requires.fit (turn-reads t) (omega (arith, turn-writes t, c.requires.inside, c.loop-y.invariant.1.size))
+    let s = (goal.at.blend_element-requires c).Start in
+    taps_room c.requires.fit (reads s c.loop-y.y c.loop-y-test.true) (omega (arith, writes s c.loop-y.y c.loop-y-test.true, c.requires.inside, c.loop-y.invariant.1.size))
 
 pub loop-y-preserved : goal.loop-y-preserved
 loop-y-preserved c =
@@ -48,22 +31,22 @@ returns c =
     rw all at c.loop-y.invariant.1
 
 pub overflow_mul-read : goal.overflow_mul-read
-overflow_mul-read c = let s = c.before.before.before in omega (arith, reads s 0 c.requires.some)
+overflow_mul-read c = let s = (goal.at.overflow_mul-read c).Start in omega (arith, reads s 0 c.requires.some)
 
 pub overflow_mul-made : goal.overflow_mul-made
-overflow_mul-made c = let s = c.before.before.before in omega (arith, writes s 0 c.requires.some)
+overflow_mul-made c = let s = (goal.at.overflow_mul-made c).Start in omega (arith, writes s 0 c.requires.some)
 
 pub loop-y-init : goal.loop-y-init
 loop-y-init c = (omega arith, parts_none)
 
 pub overflow_mul-y : goal.overflow_mul-y
-overflow_mul-y c = omega (arith, turn-reads c.before)
+overflow_mul-y c = omega (arith, reads (goal.at.overflow_mul-y c).Start c.loop-y.y c.loop-y-test.true)
 
 pub overflow_mul-y-in-loop-y : goal.overflow_mul-y-in-loop-y
-overflow_mul-y-in-loop-y c = omega (arith, turn-writes c.before.before)
+overflow_mul-y-in-loop-y c = omega (arith, writes (goal.at.overflow_mul-y-in-loop-y c).Start c.loop-y.y c.loop-y-test.true)
 
 pub overflow_add-y : goal.overflow_add-y
-overflow_add-y c = omega (arith, turn-writes c.before.before, c.requires.inside)
+overflow_add-y c = omega (arith, writes (goal.at.overflow_add-y c).Start c.loop-y.y c.loop-y-test.true, c.requires.inside)
 
 pub shape_of-dst : goal.shape_of-dst
 shape_of-dst c = c.loop-y.invariant.1.size

@@ -1,5 +1,5 @@
 use mathlib.Core.Path.{◌≡◌, refl, ◌∙◌}
-use Prim.Native.Nat.{ℕ, ◌+◌, ◌-◌, ◌*◌, ◌≤◌, ◌<◌}
+use Prim.Native.Nat.{ℕ, ◌+◌, ◌*◌, ◌≤◌, ◌<◌}
 use native.Mathlib.Nat.{one-mul}
 use native.Mathlib.Omega.{arith}
 use lib.ListN.{length}
@@ -9,12 +9,6 @@ use Rattle.resize.proofs.Sizes.{Outs, outs}
 use Rattle.resize.proofs.Outputs.{line_lies, parts_none, parts_more}
 use Rattle.resize.proofs.inner_lines.Goals as goal
 use Rattle.resize.proofs.inner_lines.Goals.{Start}
-use Rattle.resize.proofs.inner_lines.Lts as lts
-use Rattle.resize.proofs.inner_lines.Reads as given
-use Rattle.resize.proofs.inner_lines.Tie as tie
-
-abbrev the_In-loop-y : Type 0
-the_In-loop-y = lts.In-loop tie.the-claims given.Pre given.Post goal.the-invariant-loop-y goal.the-decreases-loop-y
 
 module _ (st : Start) where
   -- how many outputs there are, and that those inside are no more
@@ -31,13 +25,9 @@ module _ (st : Start) where
   writes : (y : ℕ) → let a = st.args in y < a.lines → y * (a.out * a.stride) + a.out * a.stride ≤ length a.dst.now
   writes y = let a = st.args in line_lies a.dst.now a.lines (a.out * a.stride) y st.requires.dst_length
 
-abbrev start : the_In-loop-y → Start
-start c = c.before.before.before.before
-
 pub resize_inner-requires : goal.resize_inner-requires
 resize_inner-requires c =
-    let t = c.before.before in
-    let s = start t in
+    let s = (goal.at.resize_inner-requires c).Start in
     let y = c.loop-y.y in
     record {
       len_low = c.requires.len_low;
@@ -48,9 +38,7 @@ resize_inner-requires c =
 
 pub loop-y-preserved : goal.loop-y-preserved
 loop-y-preserved c =
-    let w = c.before.before.before in
-    let t = w.before.before in
-    let s = start t in
+    let s = (goal.at.loop-y-preserved c).Start in
     let stride = c.args.stride in (
       omega arith,
       c.resize_inner.auto.dst ∙ c.loop-y.invariant.1,
@@ -64,19 +52,19 @@ returns c =
     rw all at c.loop-y.invariant.2
 
 pub overflow_mul-read : goal.overflow_mul-read
-overflow_mul-read c = let s = c.before.before.before in omega (arith, reads s 0 c.requires.some)
+overflow_mul-read c = let s = (goal.at.overflow_mul-read c).Start in omega (arith, reads s 0 c.requires.some)
 
 pub overflow_mul-made : goal.overflow_mul-made
-overflow_mul-made c = let s = c.before.before.before in omega (arith, writes s 0 c.requires.some)
+overflow_mul-made c = let s = (goal.at.overflow_mul-made c).Start in omega (arith, writes s 0 c.requires.some)
 
 pub loop-y-init : goal.loop-y-init
 loop-y-init c = (omega arith, refl, λ mode. parts_none)
 
 pub overflow_mul-y : goal.overflow_mul-y
-overflow_mul-y c = omega (arith, reads (start c.before) c.loop-y.y c.loop-y-test.true)
+overflow_mul-y c = omega (arith, reads (goal.at.overflow_mul-y c).Start c.loop-y.y c.loop-y-test.true)
 
 pub overflow_mul-y-in-loop-y : goal.overflow_mul-y-in-loop-y
-overflow_mul-y-in-loop-y c = omega (arith, writes (start c.before.before) c.loop-y.y c.loop-y-test.true)
+overflow_mul-y-in-loop-y c = omega (arith, writes (goal.at.overflow_mul-y-in-loop-y c).Start c.loop-y.y c.loop-y-test.true)
 
 pub shape_of-dst : goal.shape_of-dst
 shape_of-dst c = c.loop-y.invariant.1

@@ -10,15 +10,6 @@ use Rattle.resize.proofs.Sizes.{Outs, outs}
 use Rattle.resize.proofs.Outputs.{line_lies, last_ends, lines_made}
 use Rattle.resize.proofs.resize_lines.Goals as goal
 use Rattle.resize.proofs.resize_lines.Goals.{Start}
-use Rattle.resize.proofs.resize_lines.Lts as lts
-use Rattle.resize.proofs.resize_lines.Reads as given
-use Rattle.resize.proofs.resize_lines.Tie as tie
-
-abbrev the_After-slice_known-1 : Type 0
-the_After-slice_known-1 = lts.After-slice_known tie.the-claims given.Pre given.Post
-
-abbrev the_After-blend_ends-arg-2-1 : Type 0
-the_After-blend_ends-arg-2-1 = lts.After-blend_ends-arg2 tie.the-claims given.Pre given.Post
 
 module _ (st : Start) where
   -- how many outputs there are
@@ -35,14 +26,12 @@ module _ (st : Start) where
   last : (st.args.out - 1) * st.args.stride + st.args.stride ≡ st.args.out * st.args.stride
   last = last_ends st.args.out st.args.stride many.some
 
-line-room : (c : the_After-slice_known-1) → LineRoom c.args.len c.args.stride
-line-room c =
-    let s = c.before.before in
-    record { len_low = c.requires.len_low; len_high = c.requires.len_high; fits = omega (arith, reads s) }
+line_room : (st : Start) → LineRoom st.args.len st.args.stride
+line_room st = record { len_low = st.requires.len_low; len_high = st.requires.len_high; fits = omega (arith, reads st, st.well_formed.0.0) }
 
 pub blend_ends-requires : goal.blend_ends-requires
 blend_ends-requires c =
-    let s = c.before.before.before.before.before.before in
+    let s = (goal.at.blend_ends-requires c).Start in
     let p = c.requires in
     record {
       some = p.some;
@@ -65,13 +54,9 @@ inner_lines-requires c =
       dst_length = c.blend_ends.ensures.size ∙ p.dst_length;
     }
 
--- where the function starts, from its last call
-abbrev start : the_After-blend_ends-arg-2-1 → Start
-start c = c.before.before.before.before.before.before.before.before.before.before.before.before.before
-
 pub blend_ends-requires-2 : goal.blend_ends-requires-2
 blend_ends-requires-2 c =
-    let s = start c.before in
+    let s = (goal.at.blend_ends-requires-2 c).Start in
     let p = c.requires in
     record {
       some = p.some;
@@ -83,25 +68,21 @@ blend_ends-requires-2 c =
 
 pub returns : goal.returns
 returns c =
-    let l = c.before.before.before in
-    let i = l.before.before.before.before in
-    let e = i.before.before.before.before in
-    let t = e.before.before in
-    let s = t.before.before.before.before in
+    let s = (goal.at.returns c).Start in
     let a = c.args in
     lines_made (many s) c.requires.stride_low c.output_taps-first.ensures c.output_taps-last.ensures a.src.now a.lines c.requires.dst_length c.blend_ends.ensures (c.inner_lines.ensures a.mode) c.blend_ends-2.ensures
 
 pub output_taps-first-requires : goal.output_taps-first-requires
-output_taps-first-requires c = (omega (arith, room_is), line-room c.before)
+output_taps-first-requires c = (omega (arith, room_is), line_room (goal.at.output_taps-first-requires c).Start)
 
 pub overflow_sub-out : goal.overflow_sub-out
-overflow_sub-out c = omega (arith, (many c.before.before.before.before).some)
+overflow_sub-out c = omega (arith, (many (goal.at.overflow_sub-out c).Start).some)
 
 pub output_taps-last-requires : goal.output_taps-last-requires
-output_taps-last-requires c = (omega (arith, many c.before.before.before.before, room_is), line-room c.before.before)
+output_taps-last-requires c = (omega (arith, many (goal.at.output_taps-last-requires c).Start, room_is), line_room (goal.at.output_taps-last-requires c).Start)
 
 pub overflow_sub-out-2 : goal.overflow_sub-out-2
-overflow_sub-out-2 c = omega (arith, (many (start c.before)).some)
+overflow_sub-out-2 c = omega (arith, (many (goal.at.overflow_sub-out-2 c).Start).some)
 
 pub overflow_mul-out : goal.overflow_mul-out
-overflow_mul-out c = omega (arith, last (start c.before), writes (start c.before))
+overflow_mul-out c = omega (arith, last (goal.at.overflow_mul-out c).Start, writes (goal.at.overflow_mul-out c).Start)

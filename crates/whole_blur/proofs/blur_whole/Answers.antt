@@ -7,24 +7,10 @@ use Rattle.whole_blur.specs.Needs.{WholeAccepted}
 use Rattle.whole_blur.specs.Outcome.{whole_outcome}
 use Rattle.whole_blur.proofs.Outcomes.{whole_passes}
 use Rattle.whole_blur.proofs.blur_whole.Goals as goal
-use Rattle.whole_blur.proofs.blur_whole.Lts as lts
-use Rattle.whole_blur.proofs.blur_whole.Reads as reads
-use Rattle.whole_blur.proofs.blur_whole.Tie as tie
-
-abbrev the_Else-r-ne0 : Type 0
-the_Else-r-ne0 = lts.Else1 tie.the-claims reads.Pre reads.Post
 
 pub returns-then-r-ne0 : goal.returns-then-r-ne0
 unfolding whole_outcome
 returns-then-r-ne0 c = let e = c.whole_refusal-r.ensures in rw e (refused _ _ _ (λ z. c.if-r-ne0.true (e ∙ z)))
-
--- nothing was refused
-passes : (c : the_Else-r-ne0) →
-    let a = c.args in
-    (wrong_sides a.w a.h ≡ false) × WholeAccepted a.w a.h a.picture.now a.scratch.now a.numerators.now
-passes c =
-    let a = c.args in
-    whole_passes a.picture.now a.w a.h a.scratch.now a.numerators.now a.n a.edge (sym c.if-r-ne0.false ∙ c.whole_refusal-r.ensures)
 
 pub returns : goal.returns
 unfolding whole_outcome
@@ -32,7 +18,7 @@ returns c =
     rw (c.whole_accepted.ensures, c.full_size-size.ensures, c.edge_mode-mode.ensures) (done _ _ _ (sym c.whole_refusal-r.ensures ∙ c.if-r-ne0.false))
 
 pub full_size-size-requires : goal.full_size-size-requires
-full_size-size-requires c = (passes c.before).0
+full_size-size-requires c = let a = c.args in (whole_passes a.picture.now a.w a.h a.scratch.now a.numerators.now a.n a.edge (sym c.if-r-ne0.false ∙ c.whole_refusal-r.ensures)).0
 
 pub whole_accepted-requires : goal.whole_accepted-requires
-whole_accepted-requires c = rw c.full_size-size.ensures (passes c.before.before.before.before.before).1
+whole_accepted-requires c = let a = c.args in rw c.full_size-size.ensures (whole_passes a.picture.now a.w a.h a.scratch.now a.numerators.now a.n a.edge (sym c.if-r-ne0.false ∙ c.whole_refusal-r.ensures)).1

@@ -9,35 +9,20 @@ use Rattle.passes.proofs.Lent.{length_lent, lent_at, run_back, lines_more}
 use Rattle.passes.proofs.Written.{lined_none, lined_all}
 use Rattle.grid_sums.proofs.Local.{whole_local}
 use Rattle.whole_lines.proofs.whole_bands.Goals as goal
-use Rattle.whole_lines.proofs.whole_bands.Goals.{Start}
-use Rattle.whole_lines.proofs.whole_bands.Lts as lts
-use Rattle.whole_lines.proofs.whole_bands.Reads as reads
-use Rattle.whole_lines.proofs.whole_bands.Tie as tie
-
-abbrev the_At-loop-y : Type 0
-the_At-loop-y = lts.At-loop tie.the-claims reads.Pre reads.Post goal.the-invariant-loop-y goal.the-decreases-loop-y
-
-abbrev the_After-least-rows : Type 0
-the_After-least-rows = lts.After-least tie.the-claims reads.Pre reads.Post goal.the-invariant-loop-y goal.the-decreases-loop-y
-
--- where the function starts, from the loop's head
-abbrev begin : the_At-loop-y → Start
-begin l = l.before.before.before.before
+use Rattle.whole_lines.proofs.whole_bands.Goals.{After-least-rows}
 
 pub overflow_mul-size : goal.overflow_mul-size
 overflow_mul-size c =
     omega (arith, within 0 (c.args.w * 4) 0 c.args.h c.requires.lined.some, c.requires.lined.src_size, c.well_formed.0.0)
 
 -- the band of a turn has a row at least, and ends within both buffers
-room : (c : the_After-least-rows) →
+room : (c : After-least-rows) →
     let a = c.args in
     let y = c.loop-y.y in
     let rows = c.least-rows.result in
     let end = y * (a.w * 4) + rows * (a.w * 4) in
     (0 < rows) × (y + rows ≤ a.h) × (end ≤ length c.loop-y.picture) × (end ≤ length c.loop-y.scratch) × (length a.picture.now < 2 ^ 64)
 room c =
-    let l = c.before.before in
-    let s = begin l in
     let w = c.args.w in
     let y = c.loop-y.y in
     let rows = c.least-rows.result in
@@ -47,14 +32,13 @@ room c =
       inside,
       omega (arith, end, c.loop-y.invariant.1, c.requires.lined.src_size),
       omega (arith, end, c.loop-y.invariant.3.made.size, c.requires.lined.dst_size),
-      s.good.0.0,
+      c.well_formed.0.0,
     )
 
 pub whole_turned-requires : goal.whole_turned-requires
 whole_turned-requires c =
-    let t = c.before.before.before in
     let p = c.requires in
-    let r = room t in
+    let r = room (goal.at.whole_turned-requires c).After-least-rows in
     let size = c.args.w * 4 in
     let o = c.loop-y.y * size in
     let n = c.least-rows.result * size in
@@ -72,12 +56,10 @@ whole_turned-requires c =
 
 pub loop-y-preserved : goal.loop-y-preserved
 loop-y-preserved c =
-    let v = c.before.before.before.before.before in
-    let t = v.before.before.before in
     let a = c.args in
     let p = c.requires.lined in
     let i = c.loop-y.invariant in
-    let r = room t in
+    let r = room (goal.at.loop-y-preserved c).After-least-rows in
     let size = a.w * 4 in
     let y = c.loop-y.y in
     let rows = c.least-rows.result in
@@ -85,8 +67,8 @@ loop-y-preserved c =
     let n = rows * size in
     let last = c.whole_turned.new in
     let kept = c.whole_turned.auto in
-    let spoiled = run_back c.loop-y.picture last.0 o n (λ k. get_or last.0 k 0) r.2 kept.0 (λ k h. refl) in
-    let made = run_back c.loop-y.scratch last.1.0 o n _ r.3 kept.1.0 (λ k h. ap (λ (m : List ℕ). get_or m k 0) c.whole_turned.ensures) in (
+    let spoiled = run_back c.loop-y.picture last.picture o n (λ k. get_or last.picture k 0) r.2 kept.picture (λ k h. refl) in
+    let made = run_back c.loop-y.scratch last.scratch o n _ r.3 kept.scratch (λ k h. ap (λ (m : List ℕ). get_or m k 0) c.whole_turned.ensures) in (
       r.1,
       spoiled.size ∙ i.1,
       (λ j h. spoiled.above j (omega (arith, add-mul y rows size)) ∙ i.2 j (omega (arith, add-mul y rows size))),
@@ -108,19 +90,19 @@ pub loop-y-init : goal.loop-y-init
 loop-y-init c = (omega arith, refl, (λ j l. refl), lined_none)
 
 pub overflow_mul-start : goal.overflow_mul-start
-overflow_mul-start c = omega (arith, room c.before)
+overflow_mul-start c = omega (arith, room (goal.at.overflow_mul-start c).After-least-rows)
 
 pub overflow_mul-n : goal.overflow_mul-n
-overflow_mul-n c = omega (arith, room c.before)
+overflow_mul-n c = omega (arith, room (goal.at.overflow_mul-n c).After-least-rows)
 
 pub overflow_add-start : goal.overflow_add-start
-overflow_add-start c = omega (arith, room c.before)
+overflow_add-start c = omega (arith, room (goal.at.overflow_add-start c).After-least-rows)
 
 pub slice_bounds-whole_turned-end : goal.slice_bounds-whole_turned-end
-slice_bounds-whole_turned-end c = omega (arith, room c.before)
+slice_bounds-whole_turned-end c = omega (arith, room (goal.at.slice_bounds-whole_turned-end c).After-least-rows)
 
 pub overflow_add-start-in-loop-y : goal.overflow_add-start-in-loop-y
-overflow_add-start-in-loop-y c = omega (arith, room c.before.before)
+overflow_add-start-in-loop-y c = omega (arith, room (goal.at.overflow_add-start-in-loop-y c).After-least-rows)
 
 pub slice_bounds-whole_turned-end-in-loop-y : goal.slice_bounds-whole_turned-end-in-loop-y
-slice_bounds-whole_turned-end-in-loop-y c = omega (arith, room c.before.before)
+slice_bounds-whole_turned-end-in-loop-y c = omega (arith, room (goal.at.slice_bounds-whole_turned-end-in-loop-y c).After-least-rows)

@@ -10,13 +10,6 @@ use Rattle.passes.proofs.Lines.{lines_fit, rows_are, cols_are, level_is}
 use Rattle.grid_sums.specs.Sums.{whole_convolve}
 use Rattle.grid_sums.proofs.Local.{whole_local}
 use Rattle.whole_lines.proofs.whole_level.Goals as goal
-use Rattle.whole_lines.proofs.whole_level.Goals.{Start}
-use Rattle.whole_lines.proofs.whole_level.Lts as lts
-use Rattle.whole_lines.proofs.whole_level.Reads as reads
-use Rattle.whole_lines.proofs.whole_level.Tie as tie
-
-abbrev the_After-whole_rows : Type 0
-the_After-whole_rows = lts.After-whole_rows tie.the-claims reads.Pre reads.Post tie.handed_clauses
 
 pub whole_rows-requires : goal.whole_rows-requires
 whole_rows-requires c =
@@ -25,10 +18,6 @@ whole_rows-requires c =
     let h = c.height-h.result in
     let rows : Lines c.args.picture.now c.args.scratch.now (1 * h) w w 4 = rows_are of_pixels pixels_formed z c.requires.fact_1 c.width-w.ensures c.height-h.ensures (as_pixels z.w z.h c.requires.fact_2) (as_pixels z.w z.h c.requires.fact_3) in
     record { kernel = c.requires.fact_4; lined = rw (one-mul h) at rows }
-
--- where the function starts, from the rows' call
-abbrev start : the_After-whole_rows → Start
-start r = r.before.before.before.before.before.before.before.before
 
 pub overflow_mul-w : goal.overflow_mul-w
 overflow_mul-w c =
@@ -39,7 +28,7 @@ whole_lines-requires c =
     let z = c.args.s in
     record {
       kernel = c.requires.fact_4;
-      lined = cols_are of_pixels pixels_formed z c.requires.fact_1 c.width-w.ensures c.height-h.ensures (as_pixels z.w z.h (c.whole_rows.auto.1.0 ∙ c.requires.fact_3)) (as_pixels z.w z.h (c.whole_rows.auto.0 ∙ c.requires.fact_2));
+      lined = cols_are of_pixels pixels_formed z c.requires.fact_1 c.width-w.ensures c.height-h.ensures (as_pixels z.w z.h (c.whole_rows.auto.scratch ∙ c.requires.fact_3)) (as_pixels z.w z.h (c.whole_rows.auto.picture ∙ c.requires.fact_2));
     }
 
 pub returns : goal.returns

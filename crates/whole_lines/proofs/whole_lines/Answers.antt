@@ -6,45 +6,35 @@ use Rattle.picture.proofs.Spans.{within}
 use Rattle.passes.proofs.Written.{lined_none, line_ends, lined_more, lined_all}
 use Rattle.whole_lines.specs.Lines.{sum_lanes}
 use Rattle.whole_lines.proofs.whole_lines.Goals as goal
-use Rattle.whole_lines.proofs.whole_lines.Goals.{Start}
-use Rattle.whole_lines.proofs.whole_lines.Lts as lts
-use Rattle.whole_lines.proofs.whole_lines.Reads as reads
-use Rattle.whole_lines.proofs.whole_lines.Tie as tie
-
-abbrev the_At-loop-y : Type 0
-the_At-loop-y = lts.At-loop tie.the-claims reads.Pre reads.Post tie.handed_clauses goal.the-invariant-loop-y goal.the-decreases-loop-y
-
-abbrev the_In-loop-y : Type 0
-the_In-loop-y = lts.In-loop tie.the-claims reads.Pre reads.Post tie.handed_clauses goal.the-invariant-loop-y goal.the-decreases-loop-y
-
--- where the function starts, from the loop's head
-abbrev begin : the_At-loop-y → Start
-begin l = l.before.before.before.before
+use Rattle.whole_lines.proofs.whole_lines.Goals.{In-loop-y}
 
 pub overflow_mul-size : goal.overflow_mul-size
 overflow_mul-size c =
     omega (arith, within 0 (c.args.len * c.args.stride) 0 c.args.lines c.requires.lined.some, c.requires.lined.src_size, c.well_formed.0.0)
 
 -- the line of a turn ends within src and within dst
-ends : (c : the_In-loop-y) →
+ends : (c : In-loop-y) →
     let a = c.args in
     let end = c.loop-y.y * (a.len * a.stride) + a.len * a.stride in
     (end ≤ length c.loop-y.dst) × (end ≤ length a.src.now) × (length a.src.now < 2 ^ 64)
 ends c =
-    let l = c.before in
-    let s = begin l in
     let e = line_ends c.loop-y.invariant.2 c.args.lines c.requires.lined.dst_size c.loop-y-test.true in
-    (e, omega (arith, c.loop-y.invariant.2.made.size, c.requires.lined.src_size, c.requires.lined.dst_size), s.good.0.0)
+    (e, omega (arith, c.loop-y.invariant.2.made.size, c.requires.lined.src_size, c.requires.lined.dst_size), c.well_formed.0.0)
 
 pub whole_line-requires : goal.whole_line-requires
-whole_line-requires c = let t = c.before.before.before in
+whole_line-requires c =
     let p = c.requires in
-    let e = ends t in record { fact_1 = omega (arith, c.loop-y.invariant.1); fact_2 = p.lined.stride_low; fact_3 = record { len_low = p.lined.len_low; len_high = p.lined.len_high; src_ends = e.1; dst_ends = e.0 }; fact_4 = p.kernel }
+    let e = ends (goal.at.whole_line-requires c).In-loop-y in
+    record {
+      fact_1 = omega (arith, c.loop-y.invariant.1);
+      fact_2 = p.lined.stride_low;
+      fact_3 = record { len_low = p.lined.len_low; len_high = p.lined.len_high; src_ends = e.1; dst_ends = e.0 };
+      fact_4 = p.kernel;
+    }
 
 pub loop-y-preserved : goal.loop-y-preserved
 loop-y-preserved c =
-    let k = c.whole_line.auto in
-    (omega (arith, c.loop-y-test.true), k.0 ∙ c.loop-y.invariant.1, lined_more c.loop-y.invariant.2 c.whole_line.ensures)
+    (omega (arith, c.loop-y-test.true), c.whole_line.auto.acc ∙ c.loop-y.invariant.1, lined_more c.loop-y.invariant.2 c.whole_line.ensures)
 
 pub returns : goal.returns
 returns c = lined_all c.loop-y.invariant.2 c.args.lines c.requires.lined.dst_size (omega arith)
@@ -53,7 +43,7 @@ pub loop-y-init : goal.loop-y-init
 loop-y-init c = (omega arith, length-replicate {A = ℕ} sum_lanes 0, lined_none)
 
 pub overflow_mul-o : goal.overflow_mul-o
-overflow_mul-o c = omega (arith, ends c.before)
+overflow_mul-o c = omega (arith, ends (goal.at.overflow_mul-o c).In-loop-y)
 
 pub slice_bounds-whole_line-end : goal.slice_bounds-whole_line-end
 slice_bounds-whole_line-end c = sym c.loop-y.invariant.1

@@ -4,22 +4,10 @@ use Rattle.turns.proofs.Lines.{one_fits, turned_pass}
 use Rattle.grid_sums.specs.Sums.{whole_convolve}
 use Rattle.grid_sums.proofs.Local.{whole_local}
 use Rattle.whole_lines.proofs.whole_turned.Goals as goal
-use Rattle.whole_lines.proofs.whole_turned.Goals.{Start}
-use Rattle.whole_lines.proofs.whole_turned.Lts as lts
-use Rattle.whole_lines.proofs.whole_turned.Reads as reads
-use Rattle.whole_lines.proofs.whole_turned.Tie as tie
-
-abbrev the_After-turn : Type 0
-the_After-turn = lts.After-turn tie.the-claims reads.Pre reads.Post
-
--- where the function starts, from the first turn
-abbrev start : the_After-turn → Start
-start t = t.before.before.before.before.before.before
 
 pub overflow_mul-h : goal.overflow_mul-h
 overflow_mul-h c =
-    let s = start c.before.before.before.before.before in
-    omega (arith, one_fits c.requires.lined, s.good.0.0)
+    omega (arith, one_fits c.requires.lined, c.well_formed.0.0)
 
 pub returns : goal.returns
 returns c =
