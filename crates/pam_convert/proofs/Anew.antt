@@ -90,9 +90,9 @@ module _ (out : Bool) (bytes : List ℕ) (fits : Bytes bytes) (fit : Fit out byt
       by false e = record { r_fits = fits (4 * i + 3); g_fits = fits (4 * i + 3); b_fits = fits (4 * i + 3); a_fits = omega arith }
 
   -- the word of pixel i, and its bytes
-  new_word : (i : ℕ) → new_word out (packed (pixel_at bytes i)) ≡ packed (new_pixel out (pixel_at bytes i))
+  new_word_lem : (i : ℕ) → new_word out (packed (pixel_at bytes i)) ≡ packed (new_pixel out (pixel_at bytes i))
   unfolding new_word
-  new_word i = ap (λ (p : Pixel). packed (new_pixel out p)) (unpacks_at bytes fits i)
+  new_word_lem i = ap (λ (p : Pixel). packed (new_pixel out p)) (unpacks_at bytes fits i)
 
   new_byte : (i c : ℕ) → 4 * i + 4 ≤ length bytes → c < 4 → byte_in (packed (new_pixel out (pixel_at bytes i))) c ≡ channel_of (new_pixel out (pixel_at bytes i)) c
   new_byte i c l m = byte_of (new_pixel out (pixel_at bytes i)) c m (new_byted i l)
@@ -121,7 +121,7 @@ module _ (out : Bool) (bytes : List ℕ) (fits : Bytes bytes) (fit : Fit out byt
             ap (λ (l : List ℕ). get_or l k 0) e
             ∙ get_or-build (length words) (λ k. new_word out (get_or words k 0)) k (omega (arith, many))
             ∙ ap (new_word out) (word_at k l)
-            ∙ new_word k
+            ∙ new_word_lem k
 
         as_at : (o : Bool) (j : ℕ) → channel_at o bytes (j / 4) (j % 4) ≡ new_at o bytes j
         as_at true j = refl

@@ -1,14 +1,12 @@
 -- Each way out is the answer of the check that led there; past them the picture is added.
 use mathlib.Core.Path.{◌≡◌, ◌∙◌, sym, ap}
-use mathlib.Core.Bool.{false}
 use native.Mathlib.Nat.{sub-zero}
 use borrow.Author.Rules.{rules}
 use lib.ListN.{length}
 use Rattle.picture.specs.Answer.{answered}
-use Rattle.picture.specs.Refusal.{wrong_sides, wrong_length}
 use Rattle.picture.proofs.Conditions.{right_length}
-use Rattle.plate_room.specs.Room.{no_room, in_use, no_plate}
-use Rattle.plate_room.proofs.Room.{InPlate, in_plate}
+use Rattle.plate_room.specs.Room.{no_room, in_use}
+use Rattle.plate_room.proofs.Room.{in_plate}
 use Rattle.plate_empty.specs.Outcome.{Grown}
 use Rattle.plate_write.proofs.Settle.{no_plate_lem, wrong_sides_lem, wrong_length_lem, no_room_lem, add_done}
 use Rattle.plate_write.proofs.plate_add.Goals as goal
