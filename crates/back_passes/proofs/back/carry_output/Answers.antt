@@ -1,6 +1,6 @@
 -- Each kind of pass reads taps: the halving four, the doubling two, the convolution its numerators.
 use mathlib.Core.Path.{◌≡◌, sym, subst}
-use mathlib.Core.List.{List, ◌∷◌}
+use mathlib.Core.List.{List, [], ◌∷◌}
 use Prim.Native.Nat.{ℕ, ◌*◌, ◌/◌}
 use native.Mathlib.Omega.{arith}
 use lib.ListN.{length}
@@ -24,17 +24,15 @@ ready s e = subst (λ (k : PassKind). OutputReady k s.args.row.now s.args.x s.ar
 pub carry_taps-requires : goal.carry_taps-requires
 unfolding sum
 carry_taps-requires c =
-    let told = c.before.before.before in
-    let s = told.before.before.before.before in
-    taps_ready (ready s c.enum_told-1.given.1) (2 * c.args.x) 1 (1 ∷ 3 ∷ 3 ∷ 1 ∷ []) (omega arith) (omega arith) (omega arith) (omega arith)
+    let s = (goal.at.carry_taps-requires c).Start in
+    taps_ready (ready s c.in-Halve.is) (2 * c.args.x) 1 (1 ∷ 3 ∷ 3 ∷ 1 ∷ []) (omega arith) (omega arith) (omega arith) (omega arith)
 
 pub double_output-requires : goal.double_output-requires
-double_output-requires c = ready c.before.before.before.before.before.before c.in-Double.is
+double_output-requires c = ready (goal.at.double_output-requires c).Start c.in-Double.is
 
 pub carry_taps-requires-in-Convolve : goal.carry_taps-requires-in-Convolve
 carry_taps-requires-in-Convolve c =
-    let told = c.before.before in
-    let s = told.before.before.before.before in
+    let s = (goal.at.carry_taps-requires-in-Convolve c).Start in
     let few = c.requires.kernel.few in
     taps_ready (ready s c.in-Convolve.is) c.args.x (length c.args.numerators.now / 2) c.args.numerators.now (omega arith) (omega arith) few c.requires.kernel.light
 
@@ -49,29 +47,23 @@ as-kind s row' e h =
 
 pub returns-in-Halve : goal.returns-in-Halve
 returns-in-Halve c =
-    let call = c.before.before.before in
-    let told = call.before.before.before in
-    let s = told.before.before.before.before in
+    let s = (goal.at.returns-in-Halve c).Start in
     let a = c.args in
     let m = length a.row.now in
-    as-kind s c.carry_taps.new.0 c.enum_told-1.given.1
-    (gained_as a.row.now c.carry_taps.new.0 a.v (λ l. tap_sum a.mode (1 ∷ 3 ∷ 3 ∷ 1 ∷ []) m l (2 * a.x) 1) (λ l. exact_halve a.mode m l a.x)
+    as-kind s c.carry_taps.new.row c.in-Halve.is
+    (gained_as a.row.now c.carry_taps.new.row a.v (λ l. tap_sum a.mode (1 ∷ 3 ∷ 3 ∷ 1 ∷ []) m l (2 * a.x) 1) (λ l. exact_halve a.mode m l a.x)
     (λ l. halve_taps a.mode m c.requires.sized.low l a.x) c.carry_taps.ensures)
 
 pub returns-in-Double : goal.returns-in-Double
 returns-in-Double c =
-    let call = c.before.before.before in
-    let told = call.before.before in
-    as-kind told.before.before.before.before c.double_output.new.0 c.in-Double.is c.double_output.ensures
+    as-kind (goal.at.returns-in-Double c).Start c.double_output.new.row c.in-Double.is c.double_output.ensures
 
 pub returns-in-Convolve : goal.returns-in-Convolve
 returns-in-Convolve c =
-    let call = c.before.before.before in
-    let told = call.before.before in
-    let s = told.before.before.before.before in
+    let s = (goal.at.returns-in-Convolve c).Start in
     let a = c.args in
     let m = length a.row.now in
     let ms = a.numerators.now in
-    as-kind s c.carry_taps-in-Convolve.new.0 c.in-Convolve.is
-    (gained_as a.row.now c.carry_taps-in-Convolve.new.0 a.v (λ l. tap_sum a.mode ms m l a.x (length ms / 2)) (λ l. exact_convolve a.mode ms m l a.x)
+    as-kind s c.carry_taps-in-Convolve.new.row c.in-Convolve.is
+    (gained_as a.row.now c.carry_taps-in-Convolve.new.row a.v (λ l. tap_sum a.mode ms m l a.x (length ms / 2)) (λ l. exact_convolve a.mode ms m l a.x)
     (λ l. convolve_taps a.mode m c.requires.sized.low l ms a.x) c.carry_taps-in-Convolve.ensures)

@@ -36,9 +36,9 @@ loop-x-preserved c =
     let a = c.args in
     let v = get_or a.outputs.now l.x 0 in (
       next.high,
-      call.auto.0 ∙ l.invariant.1,
-      carried_more a.kind a.mode a.numerators.now (length a.row.now) a.outputs.now a.row.now l.row call.new.0 l.x c.next_nonzero-x-in-loop-x.result l.invariant.2
-          (subst (λ (s : ℕ). Gained l.row call.new.0 (λ t. v * exact_pass a.kind a.mode a.numerators.now s t l.x)) l.invariant.1 call.ensures) next,
+      call.auto.row ∙ l.invariant.1,
+      carried_more a.kind a.mode a.numerators.now (length a.row.now) a.outputs.now a.row.now l.row call.new.row l.x c.next_nonzero-x-in-loop-x.result l.invariant.2
+          (subst (λ (s : ℕ). Gained l.row call.new.row (λ t. v * exact_pass a.kind a.mode a.numerators.now s t l.x)) l.invariant.1 call.ensures) next,
     )
 
 pub returns : goal.returns

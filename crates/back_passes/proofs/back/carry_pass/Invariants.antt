@@ -7,7 +7,7 @@ use Rattle.back_passes.proofs.Carried.{carried_to}
 use Rattle.back_passes.proofs.back.carry_pass.Given as goal
 
 abbrev pub invariant-loop-x : goal.invariant-loop-x
-invariant-loop-x l = (l.x ≤ length l.outputs) × (length l.row ≡ length l.initial.row) × Gained l.initial.row l.row (λ l. carried_to l.kind l.mode l.numerators (length l.initial.row) l.outputs l l.x)
+invariant-loop-x l = (l.x ≤ length l.outputs) × (length l.row ≡ length l.initial.row) × Gained l.initial.row l.row (λ line. carried_to l.kind l.mode l.numerators (length l.initial.row) l.outputs line l.x)
 
 abbrev pub decreases-loop-x : goal.decreases-loop-x
 decreases-loop-x l = length l.outputs - l.x

@@ -8,12 +8,7 @@ use Rattle.back_passes.specs.Worth.{total, Gained}
 use Rattle.back_passes.specs.Steps.{tap_sum}
 use Rattle.back_passes.proofs.Taken.{taps_none, taps_more, taps_room}
 use Rattle.back_passes.proofs.taps.carry_taps.Goals as goal
-use Rattle.back_passes.proofs.taps.carry_taps.Lts as lts
-use Rattle.back_passes.proofs.taps.carry_taps.Reads as reads
-use Rattle.back_passes.proofs.taps.carry_taps.Tie as tie
-
-abbrev the_In-loop-j : Type 0
-the_In-loop-j = lts.In-loop tie.the-claims reads.Pre reads.Post tie.handed_clauses goal.the-invariant-loop-j goal.the-decreases-loop-j
+use Rattle.back_passes.proofs.taps.carry_taps.Goals.{In-loop-j}
 
 pub loop-j-init : goal.loop-j-init
 loop-j-init c =
@@ -21,7 +16,7 @@ loop-j-init c =
     (omega arith, refl, taps_none a.mode (length a.row.now) a.taps.now a.c a.d a.v a.row.now)
 
 -- what a turn adds leaves room
-room : (c : the_In-loop-j) →
+room : (c : In-loop-j) →
     let a = c.args in
     total c.loop-j.row + a.v * get_or a.taps.now c.loop-j.j 0 ≤ total a.row.now + a.v * sum a.taps.now
 room c =
@@ -34,7 +29,7 @@ overflow_add-c c = omega (arith, c.requires.far)
 
 pub overflow_mul-v : goal.overflow_mul-v
 overflow_mul-v c =
-    omega (arith, room c.before.before.before, c.requires.room)
+    omega (arith, room (goal.at.overflow_mul-v c).In-loop-j, c.requires.room)
 
 pub add_tap-requires : goal.add_tap-requires
 add_tap-requires c = let l = c.loop-j in record { fact_1 = record {
@@ -42,7 +37,7 @@ add_tap-requires c = let l = c.loop-j in record { fact_1 = record {
         s_high = omega (arith, l.invariant.1, c.requires.sized.high);
         c_high = omega (arith, c.requires.far);
         d_high = c.requires.near;
-      }; fact_2 = omega (arith, room c.before.before.before, c.requires.room) }
+      }; fact_2 = omega (arith, room (goal.at.add_tap-requires c).In-loop-j, c.requires.room) }
 
 pub loop-j-preserved : goal.loop-j-preserved
 loop-j-preserved c =
@@ -51,9 +46,9 @@ loop-j-preserved c =
     let a = c.args in
     let m = a.v * get_or a.taps.now l.j 0 in (
       omega arith,
-      call.auto.0 ∙ l.invariant.1,
-      taps_more a.mode (length a.row.now) a.taps.now a.c a.d a.v a.row.now l.row call.new.0 l.j l.invariant.2
-          (subst (λ (s : ℕ). Gained l.row call.new.0 (λ t. m * sample a.mode s t (a.c + l.j) a.d)) l.invariant.1 call.ensures),
+      call.auto.row ∙ l.invariant.1,
+      taps_more a.mode (length a.row.now) a.taps.now a.c a.d a.v a.row.now l.row call.new.row l.j l.invariant.2
+          (subst (λ (s : ℕ). Gained l.row call.new.row (λ t. m * sample a.mode s t (a.c + l.j) a.d)) l.invariant.1 call.ensures),
     )
 
 pub returns : goal.returns

@@ -7,7 +7,7 @@ use Rattle.back_passes.specs.Steps.{taps_to}
 use Rattle.back_passes.proofs.taps.carry_taps.Given as goal
 
 abbrev pub invariant-loop-j : goal.invariant-loop-j
-invariant-loop-j l = (l.j ≤ length l.taps) × (length l.row ≡ length l.initial.row) × Gained l.initial.row l.row (λ l. l.v * taps_to l.mode l.taps (length l.initial.row) l l.c l.d l.j)
+invariant-loop-j l = (l.j ≤ length l.taps) × (length l.row ≡ length l.initial.row) × Gained l.initial.row l.row (λ line. l.v * taps_to l.mode l.taps (length l.initial.row) line l.c l.d l.j)
 
 abbrev pub decreases-loop-j : goal.decreases-loop-j
 decreases-loop-j l = length l.taps - l.j
