@@ -1,40 +1,20 @@
 use mathlib.Core.Path.{◌≡◌, refl}
-use Prim.Native.Nat.{◌+◌, ◌*◌, ◌-◌, ◌≤◌, ◌<◌, ◌^◌}
+use Prim.Native.Nat.{◌+◌, ◌*◌, ◌≤◌}
 use native.Mathlib.Omega.{arith}
 use lib.ListN.{length, get_or}
 use Rattle.picture.proofs.Spans.{scale, within, span_none, span_join, span_element}
 use Rattle.turns.proofs.gather.Goals as goal
-use Rattle.turns.proofs.gather.Goals.{Start}
-use Rattle.turns.proofs.gather.Lts as lts
-use Rattle.turns.proofs.gather.Reads as reads
-use Rattle.turns.proofs.gather.Tie as tie
+use Rattle.turns.proofs.gather.Goals.{In-loop-y}
 
-abbrev the_At-loop-y : Type 0
-the_At-loop-y = lts.At-loop tie.the-claims reads.Pre reads.Post tie.handed_clauses goal.the-invariant-loop-y goal.the-decreases-loop-y
-
-abbrev the_In-loop-y : Type 0
-the_In-loop-y = lts.In-loop tie.the-claims reads.Pre reads.Post tie.handed_clauses goal.the-invariant-loop-y goal.the-decreases-loop-y
-
--- where the function starts, from the loop's head
-abbrev start : the_At-loop-y → Start
-start l = l.before.before.before
-
--- the element of a turn is read and written within the lists, whose lengths fit
-ends : (c : the_In-loop-y) →
-    let a = c.args in
-    (a.p + c.loop-y.y * a.step + a.size ≤ length a.src.now)
-    × (a.q + c.loop-y.y * a.size + a.size ≤ length c.loop-y.dst)
-    × (length a.src.now < 2 ^ 64)
-    × (length c.loop-y.dst < 2 ^ 64)
+-- the element of a turn is read and written within the lists
+ends : (c : In-loop-y) →
+    let a = c.args in (a.p + c.loop-y.y * a.step + a.size ≤ length a.src.now) × (a.q + c.loop-y.y * a.size + a.size ≤ length c.loop-y.dst)
 ends c =
-    let l = c.before in
-    let s = start l in
     let a = c.args in
-    let size = c.loop-y.invariant.1.size in
-    (c.requires.fact_1 c.loop-y.y c.loop-y-test.true, omega (arith, within a.q a.size c.loop-y.y a.count c.loop-y-test.true, c.requires.fact_2, size), s.good.0.0, omega (arith, size, s.good.1.1.1.0.0))
+    (c.requires.fact_1 c.loop-y.y c.loop-y-test.true, omega (arith, within a.q a.size c.loop-y.y a.count c.loop-y-test.true, c.requires.fact_2, c.loop-y.invariant.1.size))
 
 pub copy_element-requires : goal.copy_element-requires
-copy_element-requires c = let e = ends c.before.before in record { fact_1 = e.0; fact_2 = e.1 }
+copy_element-requires c = let e = ends (goal.at.copy_element-requires c).In-loop-y in record { fact_1 = e.0; fact_2 = e.1 }
 
 pub loop-y-preserved : goal.loop-y-preserved
 loop-y-preserved c =
@@ -52,16 +32,16 @@ pub loop-y-init : goal.loop-y-init
 loop-y-init c = (omega arith, span_none (omega arith))
 
 pub overflow_mul-y : goal.overflow_mul-y
-overflow_mul-y c = omega (arith, ends c.before)
+overflow_mul-y c = omega (arith, ends (goal.at.overflow_mul-y c).In-loop-y)
 
 pub overflow_add-p : goal.overflow_add-p
-overflow_add-p c = omega (arith, ends c.before)
+overflow_add-p c = omega (arith, ends (goal.at.overflow_add-p c).In-loop-y)
 
 pub overflow_mul-y-in-loop-y : goal.overflow_mul-y-in-loop-y
-overflow_mul-y-in-loop-y c = omega (arith, ends c.before.before)
+overflow_mul-y-in-loop-y c = omega (arith, ends (goal.at.overflow_mul-y-in-loop-y c).In-loop-y)
 
 pub overflow_add-q : goal.overflow_add-q
-overflow_add-q c = omega (arith, ends c.before.before)
+overflow_add-q c = omega (arith, ends (goal.at.overflow_add-q c).In-loop-y)
 
 pub shape_of-dst : goal.shape_of-dst
 shape_of-dst c = c.loop-y.invariant.1.size
