@@ -5,7 +5,10 @@ ghost use Rattle.std.specs.Prelude.{◌≡◌, ◌≤◌, length};
 ghost use Rattle.picture.specs.Answer.{answered};
 ghost use Rattle.plate_job.specs.Program.{longest_input, answer_to};
 
-use libc::{STDIN_FILENO, STDOUT_FILENO};
+// The standard streams.
+const STDIN: i32 = 0;
+
+const STDOUT: i32 = 1;
 
 // The most bytes that the program takes.
 const LONGEST: usize = 16384;
@@ -25,9 +28,9 @@ fn answer(input: &mut [u8], scratch: &mut [u8])
     requires { longest_input ≤ length scratch.old }
 {
     if run(input, scratch) == 0 {
-        io::write_all(STDOUT_FILENO, input);
+        io::write_all(STDOUT, input);
     } else {
-        io::write_all(STDOUT_FILENO, b"refused 10\n");
+        io::write_all(STDOUT, b"refused 10\n");
     }
 }
 
@@ -35,6 +38,6 @@ fn answer(input: &mut [u8], scratch: &mut [u8])
 fn main() {
     let mut input = [0u8; LONGEST + 1];
     let mut scratch = [0u8; LONGEST];
-    let n = io::read_full(STDIN_FILENO, &mut input);
+    let n = io::read_full(STDIN, &mut input);
     answer(&mut input[..n], &mut scratch);
 }

@@ -4,9 +4,13 @@
 ghost use Rattle.std.specs.Prelude.{◌≡◌, length};
 ghost use Rattle.replay.specs.Counts.{OneMore};
 
-use libc::{STDIN_FILENO, STDOUT_FILENO};
 use vector_values::text;
 use vectors::agrees;
+
+// The standard streams.
+const STDIN: i32 = 0;
+
+const STDOUT: i32 = 1;
 
 // The most bytes that the program takes.
 const LONGEST: usize = 1048576;
@@ -83,20 +87,20 @@ fn count(input: &[u8], entry: u64) -> Tally {
 }
 
 fn print_count(name: &[u8], c: Tally) {
-    io::write_all(STDOUT_FILENO, name);
-    io::write_all(STDOUT_FILENO, b" ");
-    io::print_decimal(STDOUT_FILENO, c.agreed);
-    io::write_all(STDOUT_FILENO, b" of ");
-    io::print_decimal(STDOUT_FILENO, c.seen);
-    io::write_all(STDOUT_FILENO, b"\n");
+    io::write_all(STDOUT, name);
+    io::write_all(STDOUT, b" ");
+    io::print_decimal(STDOUT, c.agreed);
+    io::write_all(STDOUT, b" of ");
+    io::print_decimal(STDOUT, c.seen);
+    io::write_all(STDOUT, b"\n");
 }
 
 // Every line is counted anew for the totals, so that a line of no entry is in them.
 fn print_totals(c: Tally) {
     if c.first != 0 {
-        io::write_all(STDOUT_FILENO, b"first that disagrees: line ");
-        io::print_decimal(STDOUT_FILENO, c.first);
-        io::write_all(STDOUT_FILENO, b"\n");
+        io::write_all(STDOUT, b"first that disagrees: line ");
+        io::print_decimal(STDOUT, c.first);
+        io::write_all(STDOUT, b"\n");
     }
     print_count(b"all", c);
 }
@@ -171,9 +175,9 @@ fn room() -> [u8; LONGEST + 1]
 // One byte more than the program takes is read, so that no vector is left out unsaid.
 fn main() {
     let mut input = room();
-    let n = io::read_full(STDIN_FILENO, &mut input);
+    let n = io::read_full(STDIN, &mut input);
     if LONGEST < n {
-        io::write_all(STDOUT_FILENO, b"the input is too long\n");
+        io::write_all(STDOUT, b"the input is too long\n");
     } else {
         report(&input[..n]);
     }
