@@ -2,11 +2,16 @@
 use mathlib.Core.Path.{◌≡◌, refl, sym, ap, ◌∙◌}
 use mathlib.Core.Bool.{false}
 use mathlib.Core.List.{List, [], ◌∷◌}
-use Prim.Native.Nat.{ℕ, zero, suc, ◌*◌, ◌≤◌, ◌<◌}
+use Prim.Native.Nat.{ℕ, zero, suc, ◌*◌, ◌/◌, ◌≤◌, ◌<◌}
 use native.Mathlib.Numerals.{add-one}
 use native.Mathlib.Omega.{arith}
 use lib.ListN.{length}
+use borrow.Author.Tests.{le-ltb}
+use lib.Dec.{ltb}
+use Rattle.picture.specs.Answer.{answered, settled}
 use Rattle.picture.specs.Planes.{bytes_of}
+use Rattle.picture.specs.Refusal.{first_else, first_of}
+use Rattle.picture.specs.Sizes.{Pictured}
 use Rattle.pixels.specs.Pixels.{pixel_at, with_pixel}
 use Rattle.pixels.specs.Channels.{exceeds, exceeds_at}
 use Rattle.pixels.proofs.Painting.{Painting, begins, turn}
@@ -14,7 +19,7 @@ use Rattle.grading.specs.Premultiplied.{none, scanned}
 use Rattle.grading.proofs.Scanned.{finds_none}
 use Rattle.counting.specs.Counts.{how_many}
 use Rattle.mending.specs.Changes.{lowered, mended, changes_below, laid_entries}
-use Rattle.mending.specs.Outcome.{mend_left, failing, mend_done}
+use Rattle.mending.specs.Outcome.{mend_left, failing, room_checks, mend_done}
 use Rattle.counting.proofs.Counted.{many_none, none_many}
 use Rattle.mending.proofs.Lowered.{kept, passes, same_pixel, lowered_at, lowered_is, mended_is, mended_pixel}
 use Rattle.mending.proofs.Listed.{as_many}
@@ -47,6 +52,16 @@ pub nothing_failing : (p : List ℕ) (w h : ℕ) (list : List (List ℕ)) → le
 unfolding laid_entries
 nothing_failing p w h list exact z =
     rw (← mended_still w h p exact (none_many (exceeds_at p) (w * h) z), none_listed p (w * h) z, z)
+
+-- where the count of a whole picture's pixels is 0, the room is enough, and all is as it was
+pub nothing_counted : (p : List ℕ) (w h : ℕ) (list : List (List ℕ)) → Pictured w h p → how_many (exceeds_at p) (4 * (w * h) / 4) ≡ 0 →
+    settled (first_of (room_checks p w h (length list))) (mend_left p list 0) (mend_done p w h list) ≡ answered 0 (mend_left p list 0)
+unfolding settled first_of first_else
+nothing_counted p w h list pictured z =
+    let all : 4 * (w * h) / 4 ≡ w * h = omega arith in
+    let none : failing p w h ≡ 0 = ap (how_many (exceeds_at p)) (sym all) ∙ z in
+    let roomy : ltb (length list) (failing p w h) ≡ false = rw none (le-ltb _ _ (omega arith)) in
+    rw roomy (ap (answered 0) (sym (nothing_failing p w h list pictured.exact none)))
 
 -- every pixel of a mended picture passes, so none of them fails
 pub mended_passes : (w h : ℕ) (p : List ℕ) → AllPass (mended w h p) (w * h)

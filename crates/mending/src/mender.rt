@@ -95,6 +95,7 @@ fn mend_pixels(picture: &mut [u8], size: FullSize, list: &mut [[u32; 2]])
 }
 
 // Mends a whole picture. One that passes is mended as it stands, after the one pass that counts.
+#[tactic(auto, using(crate::proofs::Passing::nothing_counted))]
 fn mend_whole(picture: &mut [u8], size: FullSize, list: &mut [[u32; 2]]) -> Mended
     requires { Pictured size.w size.h picture.old }
     ensures { mend_answer result picture.new list.new ≡ settled (first_of (room_checks picture.old size.w size.h (length list.old))) (mend_left picture.old list.old 0) (mend_done picture.old size.w size.h list.old) }

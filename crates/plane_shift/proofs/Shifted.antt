@@ -9,7 +9,6 @@ use lib.Dec.{ltb}
 use lib.ListN.{length, get_or, length-take, length-drop}
 use borrow.Author.Tests.{ltb-true, ltb-false}
 use borrow.Rule.Slice.PartMut.{mid_of, put_mid, same_len_mid}
-use Rattle.picture.specs.Planes.{Plane}
 use Rattle.picture.specs.Buffers.{line_of}
 use Rattle.picture.proofs.Planes.{pixel_fits}
 use Rattle.picture.proofs.Spans.{within}

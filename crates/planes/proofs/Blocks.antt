@@ -6,14 +6,14 @@ use mathlib.Core.Logic.{⊎_elim}
 use Prim.Native.Nat.{ℕ, ◌+◌, ◌-◌, ◌*◌, ◌/◌, ◌%◌, ◌≤◌, ◌<◌}
 use native.Mathlib.Omega.{arith}
 use lib.Dec.{ltb}
-use lib.ListN.{length, get_or}
+use lib.ListN.{get_or}
 use borrow.Author.Tests.{lt-ltb, le-ltb}
 use Rattle.picture.specs.Build.{build}
 use Rattle.picture.specs.Spans.{Run}
 use Rattle.picture.proofs.Build.{get_or-build}
 use Rattle.picture.proofs.Spans.{le_or_lt, within, span_at}
 use Rattle.halves.specs.Blocks.{apart, together}
-use Rattle.planes.specs.Places.{Carried, pixelwise, lead, reach, InPlanes}
+use Rattle.planes.specs.Places.{Carried, pixelwise, lead, InPlanes}
 use Rattle.planes.proofs.Carried.{read, channel_at_lem}
 
 small : (b : Bool) (x : ℕ) → cond b x 0 ≤ x

@@ -4,7 +4,7 @@ use mathlib.Core.List.{List}
 use Prim.Native.Nat.{ℕ, ◌+◌, ◌*◌, ◌/◌, ◌%◌, ◌≤◌, ◌<◌}
 use native.Mathlib.Omega.{arith}
 use native.Mathlib.Nat.{mul_comm}
-use lib.ListN.{length, get_or}
+use lib.ListN.{length}
 use Rattle.picture.specs.Planes.{bytes_of, chan}
 use Rattle.picture.specs.Sizes.{full_bytes}
 use Rattle.picture.specs.declared.FullSize.{FullSize}

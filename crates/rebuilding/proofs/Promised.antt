@@ -80,9 +80,9 @@ only_lowered m =
     let w = width m in
     let h = height m in
     record {
-      size = rw is (length_mended w h (given m) ∙ sym (done m).exact);
-      kept = λ k c l lc le. rw is (mended_at w h (given m) k c l lc ∙ min-eq_left le);
-      lowered = λ k c l lc gt. rw is (mended_at w h (given m) k c l lc ∙ min-eq_right (omega arith));
+      size = ap length is ∙ length_mended w h (given m) ∙ sym (done m).exact;
+      kept = λ k c l lc le. ap (λ (p : List ℕ). at p k c) is ∙ mended_at w h (given m) k c l lc ∙ min-eq_left le;
+      lowered = λ k c l lc gt. ap (λ (p : List ℕ). at p k c) is ∙ mended_at w h (given m) k c l lc ∙ min-eq_right (omega arith);
     }
 
 -- the check of the mended picture, of the same sides, finds nothing

@@ -1,5 +1,4 @@
 use mathlib.Core.Path.{refl, ◌∙◌}
-use Prim.Native.Nat.{◌-◌}
 use native.Mathlib.Omega.{arith}
 use Rattle.planes.proofs.Blocks.{joined_more}
 use Rattle.planes.proofs.join_blocks.Goals as goal

@@ -1,5 +1,4 @@
 use mathlib.Core.Path.{refl, ◌∙◌}
-use Prim.Native.Nat.{◌-◌}
 use native.Mathlib.Omega.{arith}
 use Rattle.planes.proofs.Forms.{in_planes, in_picture, ready}
 use Rattle.planes.proofs.Blocks.{blocks_begin, blocks_end}

@@ -1,5 +1,4 @@
 use mathlib.Core.Path.{refl}
-use Prim.Native.Nat.{◌-◌}
 use native.Mathlib.Omega.{arith}
 use Rattle.picture.proofs.Spans.{span_none, span_more, span_ends}
 use Rattle.halves.proofs.together.pair_bytes.Goals as goal

@@ -8,7 +8,7 @@ use Rattle.mending.proofs.mender.mend_one.Goals as goal
 use Rattle.mending.proofs.mender.mend_one.Goals.{After-exceeds}
 
 -- the test is the definition's
-tested : (c : After-exceeds) → exceeds_at c.args.picture.now c.args.i ≡ c.exceeds.result
+tested : (c : After-exceeds) → let a = c.args in exceeds_at a.picture.now a.i ≡ c.exceeds.result
 tested c = sym (c.exceeds.ensures ∙ ap exceeds c.pixel_at-p.ensures)
 
 pub bounds-list-k : goal.bounds-list-k
@@ -18,16 +18,15 @@ bounds-list-k c =
 pub returns-then-exceeds : goal.returns-then-exceeds
 returns-then-exceeds c =
     let pixel = c.pixel_at-p.ensures in
-    rw (tested (goal.at.returns-then-exceeds c).After-exceeds ∙ c.if-exceeds.true)
-    (record { value = refl; picture_after = c.set_pixel.ensures ∙ rw (c.lower.ensures, pixel); list_after = rw (c.pack.ensures, pixel) })
+    let fails = tested (goal.at.returns-then-exceeds c).After-exceeds ∙ c.if-exceeds.true in
+    record { value = rw fails; picture_after = c.set_pixel.ensures ∙ rw (c.lower.ensures, pixel); list_after = rw (fails, c.pack.ensures, pixel) }
 
 pub returns : goal.returns
 returns c =
     let a = c.args in
     let passes = tested (goal.at.returns c).After-exceeds ∙ c.if-exceeds.false in
-    rw passes
-    (record {
-      value = omega arith;
+    record {
+      value = rw passes (omega arith);
       picture_after = sym (ap (with_pixel a.picture.now a.i) (kept (pixel_at a.picture.now a.i) passes) ∙ same_pixel a.picture.now a.i);
-      list_after = refl;
-    })
+      list_after = rw passes;
+    }

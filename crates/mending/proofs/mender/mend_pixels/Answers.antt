@@ -11,24 +11,33 @@ use Rattle.mending.proofs.Lowered.{mended_is}
 use Rattle.mending.proofs.Listed.{turn_room, turn_more}
 use Rattle.mending.proofs.mender.mend_pixels.Goals as goal
 use Rattle.mending.proofs.mender.mend_pixels.Goals.{In-loop-i}
+use Rattle.mending.proofs.mender.mend_pixels.Lts as lts
+use Rattle.mending.proofs.mender.mend_pixels.Reads as reads
+use Rattle.mending.proofs.mender.mend_pixels.Tie as tie
+
+abbrev the_After-bytes-n : Type 0
+the_After-bytes-n = lts.After-bytes tie.the-claims reads.Pre reads.Post goal.the-invariant-loop-i goal.the-decreases-loop-i tie.handed_clauses
 
 pub bytes-n-requires : goal.bytes-n-requires
 bytes-n-requires c = c.requires.fact_1.sized
 
+-- the loop's end is the number of pixels
+all : (c : the_After-bytes-n) → let a = c.args in c.bytes-n.result / 4 ≡ a.size.w * a.size.h
+all c = omega (arith, c.bytes-n.ensures)
+
 -- what a turn asks: the pixel lies inside, its place fits a word, and the list has room for all
 module _ (c : In-loop-i) where
-  -- the loop's end is the number of pixels
-  all : c.bytes-n.result / 4 ≡ c.args.size.w * c.args.size.h
-  all = omega (arith, c.bytes-n.ensures)
+  abbrev start : the_After-bytes-n
+  start = c.before.before
 
   inside : 4 * c.loop-i.i + 4 ≤ length c.loop-i.picture
-  inside = omega (arith, all, c.requires.fact_1.exact, c.loop-i.invariant.painting.run.size)
+  inside = omega (arith, all start, c.requires.fact_1.exact, c.loop-i.invariant.painting.run.size)
 
   small : c.loop-i.i < 4294967296
-  small = omega (arith, all, area c.requires.fact_1.sized)
+  small = omega (arith, all start, area c.requires.fact_1.sized)
 
   fits : how_many (exceeds_at c.args.picture.now) (c.bytes-n.result / 4) ≤ length c.args.list.now
-  fits = rw all c.requires.fact_2
+  fits = rw (all start) c.requires.fact_2
 
 pub loop-i-init : goal.loop-i-init
 unfolding how_many changes_below laid_entries
@@ -53,6 +62,7 @@ shape_of-list c = c.loop-i.invariant.room
 pub returns : goal.returns
 returns c =
     let t = c.loop-i.invariant in
+    let start = c.before.before in
     let w = c.args.size.w in
-    let done : c.loop-i.i ≡ w * c.args.size.h = omega (arith, c.bytes-n.ensures, t.painting.count) in
+    let done : c.loop-i.i ≡ w * c.args.size.h = omega (arith, all start, t.painting.count) in
     record { picture_after = mended_is w c.args.size.h c.args.picture.now t.painting done c.requires.fact_1.exact; list_after = t.listing ∙ rw done }
