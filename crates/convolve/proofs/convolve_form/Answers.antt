@@ -5,16 +5,6 @@ use Rattle.passes.specs.Passes.{convolve}
 use Rattle.passes.proofs.Lines.{lines_fit, rows_are, cols_are, level_is}
 use Rattle.passes.proofs.Local.{convolve_local}
 use Rattle.convolve.proofs.convolve_form.Goals as goal
-use Rattle.convolve.proofs.convolve_form.Goals.{Start}
-use Rattle.convolve.proofs.convolve_form.Lts as lts
-use Rattle.convolve.proofs.convolve_form.Reads as reads
-use Rattle.convolve.proofs.convolve_form.Tie as tie
-
-abbrev the_After-height-h : Type 0
-the_After-height-h = lts.After-height tie.the-claims reads.Pre reads.Post tie.handed_clauses
-
-abbrev start : the_After-height-h → Start
-start t = t.before.before.before.before.before
 
 pub overflow_mul-form : goal.overflow_mul-form
 overflow_mul-form c =
@@ -35,7 +25,7 @@ pub convolve_lines-requires : goal.convolve_lines-requires
 convolve_lines-requires c =
     record {
       kernel = c.requires.fact_5;
-      lined = cols_are c.args.form c.requires.fact_1 c.args.s c.requires.fact_2 c.width-w.ensures c.height-h.ensures (c.convolve_rows.auto.1.0 ∙ c.requires.fact_4) (c.convolve_rows.auto.0 ∙ c.requires.fact_3);
+      lined = cols_are c.args.form c.requires.fact_1 c.args.s c.requires.fact_2 c.width-w.ensures c.height-h.ensures (c.convolve_rows.auto.scratch ∙ c.requires.fact_4) (c.convolve_rows.auto.picture ∙ c.requires.fact_3);
     }
 
 pub returns : goal.returns

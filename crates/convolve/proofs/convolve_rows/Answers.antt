@@ -15,17 +15,15 @@ narrow w lines lanes n e l = l ∙ ap (λ (k : ℕ). lines * k) (ap (λ (k : ℕ
 
 pub overflow_mul-lines : goal.overflow_mul-lines
 overflow_mul-lines c =
-    let s = c.before.before.before.before.before.before.before in
-    omega (arith, narrow s.args.w s.args.lines s.args.lanes _ c.if-w-eq1.true s.requires.lined.src_size, s.well-formed.0.0)
+    omega (arith, narrow c.args.w c.args.lines c.args.lanes _ c.if-w-eq1.true c.requires.lined.src_size)
 
 pub convolve_lines-requires : goal.convolve_lines-requires
 convolve_lines-requires c =
-    let s = c.before.before.before.before.before.before.before in
-    let p = s.requires.lined in
-    let size = narrow s.args.w s.args.lines s.args.lanes in
+    let p = c.requires.lined in
+    let size = narrow c.args.w c.args.lines c.args.lanes in
     let e = c.if-w-eq1.true in
     record {
-      kernel = s.requires.kernel;
+      kernel = c.requires.kernel;
       lined = record {
         some = omega arith;
         len_low = omega arith;
@@ -38,9 +36,7 @@ convolve_lines-requires c =
 
 pub returns-then-w-eq1 : goal.returns-then-w-eq1
 returns-then-w-eq1 c =
-    let t = c.before.before.before in
-    let s = t.before.before.before.before.before.before.before in
-    let a = s.args in
+    let a = c.args in
     let e : a.w ≡ 1 = c.if-w-eq1.true in
     rw e (c.convolve_lines.ensures ∙ sym (one_wide (convolve a.mode a.weights.now) (convolve_local a.mode a.weights.now) a.picture.now a.lines a.lanes))
 

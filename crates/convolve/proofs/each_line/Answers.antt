@@ -1,67 +1,54 @@
 use mathlib.Core.Path.{refl, ◌∙◌}
-use Prim.Native.Nat.{◌+◌, ◌-◌, ◌*◌, ◌≤◌, ◌<◌, ◌^◌}
+use Prim.Native.Nat.{◌+◌, ◌*◌, ◌≤◌}
 use native.Mathlib.Omega.{arith}
 use lib.ListN.{length, length-take, length-drop}
 use Rattle.passes.proofs.Written.{lined_none, line_ends, lined_all}
 use Rattle.passes.proofs.Lent.{line_more}
 use Rattle.convolve.proofs.Room.{room_still}
 use Rattle.convolve.proofs.each_line.Goals as goal
-use Rattle.convolve.proofs.each_line.Goals.{Start}
-use Rattle.convolve.proofs.each_line.Lts as lts
-use Rattle.convolve.proofs.each_line.Reads as reads
-use Rattle.convolve.proofs.each_line.Tie as tie
-
-abbrev the_At-loop-y : Type 0
-the_At-loop-y = lts.At-loop tie.the-claims reads.Pre reads.Post tie.handed_clauses goal.the-invariant-loop-y goal.the-decreases-loop-y
-
-abbrev the_In-loop-y : Type 0
-the_In-loop-y = lts.In-loop tie.the-claims reads.Pre reads.Post tie.handed_clauses goal.the-invariant-loop-y goal.the-decreases-loop-y
-
--- where the function starts, from the loop's head
-abbrev start : the_At-loop-y → Start
-start l = l.before.before.before.before.before
+use Rattle.convolve.proofs.each_line.Goals.{In-loop-y}
 
 pub loop-y-init : goal.loop-y-init
 loop-y-init c = (omega arith, refl, lined_none)
 
 -- the bytes of a turn end within dst
-ends : (c : the_In-loop-y) →
+ends : (c : In-loop-y) →
     let a = c.args in c.loop-y.y * (a.len * a.stride) + a.len * a.stride ≤ length c.loop-y.dst
 ends c =
     line_ends c.loop-y.invariant.2 c.args.lines c.requires.fact_1.lined.dst_size c.loop-y-test.true
 
-fits : (l : the_At-loop-y) → length l.loop-y.dst < 2 ^ 64
-fits l = omega (arith, l.loop-y.invariant.2.made.size, l.well_formed.1.1.0.0)
-
 pub overflow_add-o : goal.overflow_add-o
-overflow_add-o c =
-    let t = c.before.before in
-    omega (arith, ends t, fits t.before)
+overflow_add-o c = omega (arith, ends (goal.at.overflow_add-o c).In-loop-y)
 
 pub convolve_line-requires : goal.convolve_line-requires
-convolve_line-requires c = let t = c.before.before.before in
+convolve_line-requires c =
     let p = c.requires.fact_1 in
     let b = c.requires.fact_2 in
     let i = c.loop-y.invariant in
-    let e = ends t in record { fact_1 = record { kernel = p.kernel; len_high = p.lined.len_high; stride_low = p.lined.stride_low; end = omega (arith, i.2.made.size, p.lined.src_size, p.lined.dst_size) }; fact_2 = simp (length-take, length-drop) (omega arith); fact_3 = room_still b i.1 b.some (omega arith) }
+    let e = ends (goal.at.convolve_line-requires c).In-loop-y in
+    record {
+      fact_1 = record { kernel = p.kernel; len_high = p.lined.len_high; stride_low = p.lined.stride_low; end = omega (arith, i.2.made.size, p.lined.src_size, p.lined.dst_size) };
+      fact_2 = simp (length-take, length-drop) (omega arith);
+      fact_3 = room_still b i.1 b.some (omega arith);
+    }
 
 pub loop-y-preserved : goal.loop-y-preserved
 loop-y-preserved c =
     let i = c.loop-y.invariant in
     let k = c.convolve_line.auto in
-    (omega arith, k.0 ∙ i.1, line_more i.2 c.args.lines c.requires.fact_1.lined.dst_size c.loop-y-test.true c.convolve_line.new.1.1.1.0 k.1.1.1.0 c.convolve_line.ensures)
+    (omega arith, k.line ∙ i.1, line_more i.2 c.args.lines c.requires.fact_1.lined.dst_size c.loop-y-test.true c.convolve_line.new.dst k.dst c.convolve_line.ensures)
 
 pub returns : goal.returns
 returns c = lined_all c.loop-y.invariant.2 c.args.lines c.requires.fact_1.lined.dst_size (omega arith)
 
 pub overflow_mul-size : goal.overflow_mul-size
-overflow_mul-size c = omega (arith, ends c.before, fits c.before.before)
+overflow_mul-size c = omega (arith, ends c)
 
 pub overflow_mul-o : goal.overflow_mul-o
-overflow_mul-o c = omega (arith, ends c.before, fits c.before.before)
+overflow_mul-o c = omega (arith, ends c)
 
 pub slice_bounds-convolve_line-end : goal.slice_bounds-convolve_line-end
-slice_bounds-convolve_line-end c = omega (arith, ends c.before.before)
+slice_bounds-convolve_line-end c = omega (arith, ends (goal.at.slice_bounds-convolve_line-end c).In-loop-y)
 
 pub shape_of-line : goal.shape_of-line
 shape_of-line c = c.loop-y.invariant.1
