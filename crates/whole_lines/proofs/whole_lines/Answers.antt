@@ -43,7 +43,7 @@ pub loop-y-init : goal.loop-y-init
 loop-y-init c = (omega arith, length-replicate {A = ℕ} sum_lanes 0, lined_none)
 
 pub overflow_mul-o : goal.overflow_mul-o
-overflow_mul-o c = omega (arith, ends (goal.at.overflow_mul-o c).In-loop-y)
+overflow_mul-o c = omega (arith, ends c)
 
 pub slice_bounds-whole_line-end : goal.slice_bounds-whole_line-end
 slice_bounds-whole_line-end c = sym c.loop-y.invariant.1
