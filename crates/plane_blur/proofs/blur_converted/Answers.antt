@@ -5,9 +5,6 @@ use Rattle.plane_blur.proofs.blur_converted.Goals as goal
 
 pub returns : goal.returns
 returns c =
-    let split = c.before.before.before in
-    let blur = split.before.before.before.before.before.before.before in
-    let join = blur.before.before.before.before.before in
-    let a = join.before.before.before.before.before.before.args in
+    let a = c.args in
     worked a.size.w a.size.h (blurred_or_kept a.mode a.weights.now a.n a.strength a.size.w a.size.h) a.planes.now _ _ _
     c.join.ensures c.blur_or_keep.ensures c.split.ensures

@@ -8,12 +8,7 @@ use Rattle.drop_shadow.specs.Needs.{ShadowAccepted}
 use Rattle.plane_shadow.specs.Outcome.{shadow_planes_outcome}
 use Rattle.drop_shadow.proofs.Accepted.{accepted}
 use Rattle.plane_shadow.proofs.shadow_planes.Goals as goal
-use Rattle.plane_shadow.proofs.shadow_planes.Lts as lts
-use Rattle.plane_shadow.proofs.shadow_planes.Reads as reads
-use Rattle.plane_shadow.proofs.shadow_planes.Tie as tie
-
-abbrev the_Else-r-ne0 : Type 0
-the_Else-r-ne0 = lts.Else1 tie.the-claims reads.Pre reads.Post
+use Rattle.plane_shadow.proofs.shadow_planes.Goals.{Else-r-ne0}
 
 pub returns-then-r-ne0 : goal.returns-then-r-ne0
 unfolding shadow_planes_outcome
@@ -22,7 +17,7 @@ returns-then-r-ne0 c =
     rw c.shadow_refusal-r.ensures (refused _ _ _ (λ e. f (c.shadow_refusal-r.ensures ∙ e)))
 
 -- nothing was refused
-fine : (c : the_Else-r-ne0) →
+fine : (c : Else-r-ne0) →
     let a = c.args in
     (wrong_sides a.w a.h ≡ false) × ShadowAccepted (full_size a.w a.h) a.planes.now a.scratch.now a.copy.now a.weights.now a.recipe
 fine c =
@@ -31,8 +26,7 @@ fine c =
 
 pub shadow_planes_accepted-requires : goal.shadow_planes_accepted-requires
 shadow_planes_accepted-requires c =
-    let made = c.before.before.before.before in
-    rw c.casting_of-cast.ensures (fine made.before).1
+    rw c.casting_of-cast.ensures (fine (goal.at.shadow_planes_accepted-requires c).Else-r-ne0).1
 
 pub returns : goal.returns
 unfolding shadow_planes_outcome
@@ -40,4 +34,4 @@ returns c =
     rw (c.shadow_planes_accepted.ensures, c.casting_of-cast.ensures) (done _ _ _ (sym c.shadow_refusal-r.ensures ∙ c.if-r-ne0.false))
 
 pub casting_of-cast-requires : goal.casting_of-cast-requires
-casting_of-cast-requires c = (fine c.before).0
+casting_of-cast-requires c = (fine (goal.at.casting_of-cast-requires c).Else-r-ne0).0

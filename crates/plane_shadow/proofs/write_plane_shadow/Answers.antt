@@ -7,20 +7,10 @@ use Rattle.plane_shadow.proofs.write_plane_shadow.Goals as goal
 
 pub returns-then-composite : goal.returns-then-composite
 returns-then-composite c =
-    let call = c.before.before.before in
-    let then = call.before.before.before in
-    let made = then.before in
-    let alphas = made.before.before.before in
-    let s = alphas.before.before.before.before in
-    let a = s.args in
-    shadow_written a.size.w a.size.h (painted_planes a.size.w a.size.h) (planes_same a.size.w a.size.h) (plane_of a.planes.now a.size.w a.size.h) a.colour a.plane.now s.requires.0.exact true c.if-composite.true c.tint_of-tint.ensures c.shadow_alphas.ensures c.lay_planes.ensures
+    let a = c.args in
+    shadow_written a.size.w a.size.h (painted_planes a.size.w a.size.h) (planes_same a.size.w a.size.h) (plane_of a.planes.now a.size.w a.size.h) a.colour a.plane.now c.requires.fact_1.exact true c.if-composite.true c.tint_of-tint.ensures c.shadow_alphas.ensures c.lay_planes.ensures
 
 pub returns-else-composite : goal.returns-else-composite
 returns-else-composite c =
-    let call = c.before.before.before in
-    let else = call.before.before.before in
-    let made = else.before in
-    let alphas = made.before.before.before in
-    let s = alphas.before.before.before.before in
-    let a = s.args in
-    shadow_written a.size.w a.size.h (painted_planes a.size.w a.size.h) (planes_same a.size.w a.size.h) (plane_of a.planes.now a.size.w a.size.h) a.colour a.plane.now s.requires.0.exact false c.if-composite.false c.tint_of-tint.ensures c.shadow_alphas.ensures c.tint_planes.ensures
+    let a = c.args in
+    shadow_written a.size.w a.size.h (painted_planes a.size.w a.size.h) (planes_same a.size.w a.size.h) (plane_of a.planes.now a.size.w a.size.h) a.colour a.plane.now c.requires.fact_1.exact false c.if-composite.false c.tint_of-tint.ensures c.shadow_alphas.ensures c.tint_planes.ensures
