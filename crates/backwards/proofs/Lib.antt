@@ -1,2 +1,3 @@
 -- Laws of lines worked out backwards.
 pub mod Lines
+pub mod Level

@@ -43,8 +43,8 @@ either_none false = refl
 
 module _ (w : ℕ) (xs ys : List ℕ) where
   -- place x of row y
-  pub product_at : (x y : ℕ) → x < w → product_at w xs ys (y * w + x) ≡ get_or xs x 0 * get_or ys y 0
-  product_at x y l = rw (remainder w y x l, quotient w y x l)
+  pub product_of : (x y : ℕ) → x < w → product_at w xs ys (y * w + x) ≡ get_or xs x 0 * get_or ys y 0
+  product_of x y l = rw (remainder w y x l, quotient w y x l)
 
   -- rows without shares have no points
   pub rows_skip : (a b : ℕ) → 0 < w → a ≤ b → ((k : ℕ) → a ≤ k → k < b → get_or ys k 0 ≡ 0) → points_below (product_at w xs ys) (b * w) ≡ points_below (product_at w xs ys) (a * w)
@@ -60,7 +60,7 @@ module _ (w : ℕ) (xs ys : List ℕ) where
   row_count y (suc x) l =
       let t = eqb (get_or ys y 0) 0 in
       let next : y * w + suc x ≡ suc (y * w + x) = omega arith in
-      let one = ap (λ (m : ℕ). cond (eqb m 0) 0 1) (product_at x y l) ∙ one_counts (get_or xs x 0) (get_or ys y 0) t refl in
+      let one = ap (λ (m : ℕ). cond (eqb m 0) 0 1) (product_of x y l) ∙ one_counts (get_or xs x 0) (get_or ys y 0) t refl in
       let more = ap (λ (m : ℕ). cond t 0 m) (count_more (line_of xs) x) in
       ap (λ (m : ℕ). length (points_below (product_at w xs ys) m)) next
       ∙ omega (arith, count_more (product_at w xs ys) (y * w + x), one, row_count y x (omega arith), more, either_sum t (length (points_below (line_of xs) x)) (cond (eqb (get_or xs x 0) 0) 0 1))

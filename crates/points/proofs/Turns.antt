@@ -13,7 +13,7 @@ use Rattle.back_passes.specs.Worth.{NextNonzero}
 use Rattle.points.specs.Points.{point, points_below, product_at}
 use Rattle.points.specs.Needs.{RowAsked}
 use Rattle.points.proofs.Points.{points_one, points_skip, count_up, laid_more, laid_room}
-use Rattle.points.proofs.Rows.{product_some, product_at, rows_skip}
+use Rattle.points.proofs.Rows.{product_some, product_of, rows_skip}
 
 pub record RowTurn (xs : List ℕ) (w : ℕ) (ys : List ℕ) (y : ℕ) (first list : List (List ℕ)) (k x : ℕ) : Type 0 where
   pub high : x ≤ length xs
@@ -29,7 +29,7 @@ module _ (xs : List ℕ) (w : ℕ) (ys : List ℕ) (y : ℕ) where
       points_skip (product_at w xs ys) (y * w + a) (y * w + b) (omega arith)
       (λ k ka kb.
       let e : k ≡ y * w + (k - y * w) = omega arith in
-      ap (product_at w xs ys) e ∙ product_at w xs ys (k - y * w) y (omega arith) ∙ ap (λ (v : ℕ). v * get_or ys y 0) (z (k - y * w) (omega arith) (omega arith)) ∙ zero-mul (get_or ys y 0))
+      ap (product_at w xs ys) e ∙ product_of w xs ys (k - y * w) y (omega arith) ∙ ap (λ (v : ℕ). v * get_or ys y 0) (z (k - y * w) (omega arith) (omega arith)) ∙ zero-mul (get_or ys y 0))
 
   module _ (from room k : ℕ) (r : RowAsked xs w ys y from room k) where
     pub turn_first : (list : List (List ℕ)) → RowTurn xs w ys y list list k from
@@ -52,7 +52,7 @@ module _ (xs : List ℕ) (w : ℕ) (ys : List ℕ) (y : ℕ) where
       -- this place's point
       here : points_below (product_at w xs ys) (y * w + (x + 1)) ≡ points_below (product_at w xs ys) (y * w + x) ++ (point (y * w + x) (get_or xs x 0 * get_or ys y 0) ∷ [])
       here =
-          let at = product_at w xs ys x y (omega (arith, r.rows.within)) in
+          let at = product_of w xs ys x y (omega (arith, r.rows.within)) in
           let next : y * w + (x + 1) ≡ suc (y * w + x) = omega arith in
           ap (points_below (product_at w xs ys)) next
           ∙ points_one (product_at w xs ys) (y * w + x) (λ z. product_some (get_or xs x 0) (get_or ys y 0) (t.worth l) r.worth (sym at ∙ z))

@@ -6,31 +6,22 @@ use lib.ListN.{length, set}
 use Rattle.mending.specs.Changes.{laid_entries}
 use Rattle.points.proofs.Turns.{RowTurn, turn_first, place_fits, turn_room, turn_more, turn_last}
 use Rattle.points.proofs.write_row.Goals as goal
-use Rattle.points.proofs.write_row.Goals.{Start}
-use Rattle.points.proofs.write_row.Lts as lts
-use Rattle.points.proofs.write_row.Reads as reads
-use Rattle.points.proofs.write_row.Tie as tie
-
-abbrev the_In-loop-x : Type 0
-the_In-loop-x = lts.In-loop tie.the-claims reads.Pre reads.Post tie.handed_clauses goal.the-invariant-loop-x goal.the-decreases-loop-x
+use Rattle.points.proofs.write_row.Goals.{In-loop-x}
 
 -- how a turn of the loop stands
-module _ (c : the_In-loop-x) where
-  abbrev start : Start
-  start = c.before.before.before.before.before
-
+module _ (c : In-loop-x) where
   -- there is room for this point
   room : c.loop-x.k < length c.loop-x.list
   room =
-      let a = start.args in
+      let a = c.args in
       let l = c.loop-x in
-      turn_room a.xs.now a.w a.ys.now a.y a.from (length a.list.now) a.k start.pre a.list.now l.list l.k l.x l.invariant (omega arith) refl
+      turn_room a.xs.now a.w a.ys.now a.y a.from (length a.list.now) a.k c.requires a.list.now l.list l.k l.x l.invariant (omega arith) refl
 
   -- and its place fits
-  small : start.args.y * start.args.w + c.loop-x.x ≤ 4294967296
+  small : c.args.y * c.args.w + c.loop-x.x ≤ 4294967296
   small =
-      let a = start.args in
-      omega (arith, place_fits a.xs.now a.w a.ys.now a.y a.from (length a.list.now) a.k start.pre, c.loop-x.invariant.high, start.pre.rows.within)
+      let a = c.args in
+      omega (arith, place_fits a.xs.now a.w a.ys.now a.y a.from (length a.list.now) a.k c.requires, c.loop-x.invariant.high, c.requires.rows.within)
 
 pub loop-x-init : goal.loop-x-init
 loop-x-init c =
@@ -59,22 +50,22 @@ pub bounds-ys-y : goal.bounds-ys-y
 bounds-ys-y c = c.requires.inside
 
 pub overflow_mul-y : goal.overflow_mul-y
-overflow_mul-y c = omega (arith, small c.before)
+overflow_mul-y c = omega (arith, small (goal.at.overflow_mul-y c).In-loop-x)
 
 pub overflow_add-y : goal.overflow_add-y
-overflow_add-y c = omega (arith, small c.before)
+overflow_add-y c = omega (arith, small (goal.at.overflow_add-y c).In-loop-x)
 
 pub entry_at-requires : goal.entry_at-requires
 entry_at-requires c = tt
 
 pub offset_bounds-list-k : goal.offset_bounds-list-k
-offset_bounds-list-k c = omega (arith, room c.before.before.before)
+offset_bounds-list-k c = omega (arith, room (goal.at.offset_bounds-list-k c).In-loop-x)
 
 pub bounds-list-k : goal.bounds-list-k
-bounds-list-k c = room c.before.before.before
+bounds-list-k c = room (goal.at.bounds-list-k c).In-loop-x
 
 pub overflow_add-k : goal.overflow_add-k
-overflow_add-k c = omega (arith, room c.before.before.before)
+overflow_add-k c = omega (arith, room (goal.at.overflow_add-k c).In-loop-x)
 
 pub shape_of-list : goal.shape_of-list
 shape_of-list c = c.loop-x.invariant.same

@@ -39,9 +39,9 @@ loop-y-preserved c =
     let next = rows_next a.xs.now a.w a.ys.now c.requires.low l.y c.next_nonzero-y-in-loop-y.result n in (
       n.high,
       n.found,
-      call.ensures.0 ∙ ap length (sym next),
-      call.ensures.1 a.list.now l.invariant.3 ∙ ap (λ (new : List (List ℕ)). laid_entries new a.list.now) (sym next),
-      call.auto.1.1.1.1.1.0 ∙ l.invariant.4,
+      call.ensures.value ∙ ap length (sym next),
+      call.ensures.by_index a.list.now l.invariant.3 ∙ ap (λ (new : List (List ℕ)). laid_entries new a.list.now) (sym next),
+      call.auto.list ∙ l.invariant.4,
     )
 
 pub returns : goal.returns

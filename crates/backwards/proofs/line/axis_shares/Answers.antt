@@ -19,12 +19,13 @@ carry_line-requires c =
       room = scale_fits a.n _ r.shallow (one_total a.work.now a.o r.work_blank (omega (arith, r.inside, r.work_is)));
     }
 
-pub shape_of-work : goal.shape_of-work
-shape_of-work c =
-    let a = c.args in
-    c.carry_line.auto.0 ∙ length-set a.work.now a.o 1
-
 pub returns : goal.returns
-returns c = let a = c.args in
-    let r = c.requires in record { row_after = shares_are a.work.now a.o r.work_blank (omega (arith, r.inside, r.work_is)) a.mode a.numerators.now a.n a.side.s c.carry_line.new.1.0
-          (c.carry_line.auto.1.0 ∙ r.row_is) c.carry_line.ensures.carried; blank = c.carry_line.ensures.blank }
+returns c =
+    let a = c.args in
+    let r = c.requires in
+    record {
+      row_after =
+          shares_are a.work.now a.o r.work_blank (omega (arith, r.inside, r.work_is)) a.mode a.numerators.now a.n a.side.s c.carry_line.new.row
+          (c.carry_line.auto.row ∙ r.row_is) c.carry_line.ensures.carried;
+      blank = c.carry_line.ensures.blank;
+    }

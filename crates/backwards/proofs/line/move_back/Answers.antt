@@ -11,5 +11,11 @@ use Rattle.backwards.proofs.Lines.{blank_replicate}
 use Rattle.backwards.proofs.line.move_back.Goals as goal
 
 pub returns : goal.returns
-returns c = let pass = c.before.before.before.before.before.before.before in
-    let s = pass.before.before.before.before.before.before in record { carried = λ l. c.carry_pass.ensures l ∙ ap (λ (k : ℕ). k + worth_of s.args.outputs.now (exact_pass s.args.kind s.args.mode s.args.numerators.now (length s.args.row.now) l)) (worth_blank s.args.row.now s.requires.1 l) ∙ zero-add _; blank = subst (λ (row : List ℕ). Blank row) (sym c.clear_row.ensures) (blank_replicate (length s.args.outputs.now)) }
+returns c =
+    let a = c.args in
+    record {
+      carried = λ l. c.carry_pass.ensures l
+          ∙ ap (λ (k : ℕ). k + worth_of a.outputs.now (exact_pass a.kind a.mode a.numerators.now (length a.row.now) l)) (worth_blank a.row.now c.requires.fact_2 l)
+          ∙ zero-add _;
+      blank = subst (λ (row : List ℕ). Blank row) (sym c.clear_row.ensures) (blank_replicate _);
+    }
