@@ -43,7 +43,9 @@ pub loop-y-init : goal.loop-y-init
 loop-y-init c = (omega arith, length-replicate {A = ℕ} sum_lanes 0, lined_none)
 
 pub overflow_mul-o : goal.overflow_mul-o
-overflow_mul-o c = omega (arith, ends c)
+overflow_mul-o c =
+    let l = c.requires.lined in
+    omega (arith, line_ends c.loop-y.invariant.2 c.args.lines l.dst_size c.loop-y-test.true, c.loop-y.invariant.2.made.size, l.src_size, l.dst_size, c.well_formed.0.0)
 
 pub slice_bounds-whole_line-end : goal.slice_bounds-whole_line-end
 slice_bounds-whole_line-end c = sym c.loop-y.invariant.1
