@@ -4,15 +4,10 @@ use Rattle.body_blur.proofs.Body.{inside, part_fits, part_back}
 use Rattle.body_blur.proofs.blur_body.Goals as goal
 
 pub slice_bounds-blur_part-end : goal.slice_bounds-blur_part-end
-slice_bounds-blur_part-end c = let st = c.before.before.before.before.before.before in inside _ _ _ _ st.requires _ c.read_entry-e.ensures
+slice_bounds-blur_part-end c = inside _ _ _ _ c.requires _ c.read_entry-e.ensures
 
 pub blur_part-requires : goal.blur_part-requires
-blur_part-requires c =
-    let e = c.before.before.before.before.before in
-    part_fits _ _ _ _ e.before.before.before.before.requires _ c.read_entry-e.ensures
+blur_part-requires c = part_fits _ _ _ _ c.requires _ c.read_entry-e.ensures
 
 pub returns : goal.returns
-returns c =
-    let b = c.before.before.before.before.before in
-    let e = b.before.before.before.before.before.before in
-    part_back _ _ _ _ e.before.before.before.before.requires _ c.read_entry-e.ensures plate_blur c.blur_part.ensures
+returns c = part_back _ _ _ _ c.requires _ c.read_entry-e.ensures plate_blur c.blur_part.ensures

@@ -1,9 +1,9 @@
 -- Each way out is one case of the definition: check 1, check 2, check 3, and the table built.
-use Rattle.std.proofs.Common.{◌≡◌, false, length, sym, ap, ◌∙◌}
+use Rattle.std.proofs.Common.{length, sym, ap, ◌∙◌}
 use Rattle.picture.specs.Answer.{answered, settled}
-use Rattle.picture.specs.Refusal.{first_else, first_of, wrong_sides, wrong_length}
+use Rattle.picture.specs.Refusal.{first_else, first_of}
 use Rattle.picture.proofs.Sizes.{whole}
-use Rattle.area.specs.Outcome.{short_table, build_outcome}
+use Rattle.area.specs.Outcome.{build_outcome}
 use Rattle.area.proofs.Conditions.{long_table}
 use Rattle.area.proofs.builder.build.Goals as goal
 

@@ -1,4 +1,4 @@
-use Rattle.std.proofs.Common.{◌+◌, ◌-◌, refl, ◌∙◌, arith, length-set}
+use Rattle.std.proofs.Common.{◌+◌, refl, ◌∙◌, arith, length-set}
 use mir.Facts.{Fits-widen}
 use Rattle.picture.proofs.Spans.{span_none, span_more, span_ends}
 use Rattle.area.specs.Area.{alpha_plane}

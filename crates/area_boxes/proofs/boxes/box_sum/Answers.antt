@@ -1,15 +1,12 @@
 -- Each way out is one case of the definition: check 1, check 3, check 20, and the box's sum.
-use mathlib.Core.Path.{◌≡◌, ◌∙◌, sym, ap}
-use mathlib.Core.Bool.{false}
+use mathlib.Core.Path.{◌∙◌, sym, ap}
 use Prim.Native.Nat.{◌+◌}
 use native.Mathlib.Nat.{mul_comm}
 use native.Mathlib.Omega.{arith}
 use lib.ListN.{length}
 use Rattle.picture.specs.Answer.{answered}
-use Rattle.picture.specs.Refusal.{wrong_sides}
 use Rattle.picture.proofs.Sizes.{full_sized}
-use Rattle.area_boxes.specs.Outcome.{wrong_box, box_outcome}
-use Rattle.area.specs.Outcome.{short_table}
+use Rattle.area_boxes.specs.Outcome.{box_outcome}
 use Rattle.area_boxes.proofs.Conditions.{right_box}
 use Rattle.area.proofs.Conditions.{long_table}
 use Rattle.area.proofs.Entries.{rows_le}

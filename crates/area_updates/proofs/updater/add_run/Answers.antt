@@ -1,4 +1,4 @@
-use Rattle.std.proofs.Common.{ℕ, ◌+◌, ◌-◌, ◌%◌, ap, ◌∙◌, arith, length-set, rules}
+use Rattle.std.proofs.Common.{ℕ, ◌+◌, ◌%◌, ap, ◌∙◌, arith, length-set, rules}
 use Rattle.picture.proofs.Spans.{span_none, span_more, span_ends}
 use Rattle.area.specs.Area.{top}
 use Rattle.area_updates.proofs.updater.add_run.Goals as goal

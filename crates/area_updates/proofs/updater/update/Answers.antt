@@ -1,12 +1,9 @@
 -- Each way out is one case of the definition: check 1, check 3, check 20, and the table after the change.
-use Rattle.std.proofs.Common.{◌≡◌, false, length, sym, ap, ◌∙◌, mod-lt, mul_comm, div-lt_iff_lt-mul, arith}
+use Rattle.std.proofs.Common.{length, sym, ap, ◌∙◌, mod-lt, mul_comm, div-lt_iff_lt-mul, arith}
 use Rattle.picture.specs.Answer.{answered}
-use Rattle.picture.specs.Refusal.{wrong_sides}
-use Rattle.picture.specs.Sizes.{Sides}
 use Rattle.picture.proofs.Sizes.{full_sized}
 use Rattle.area.specs.Area.{updated}
-use Rattle.area_updates.specs.Outcome.{wrong_place, update_outcome}
-use Rattle.area.specs.Outcome.{short_table}
+use Rattle.area_updates.specs.Outcome.{update_outcome}
 use Rattle.area_updates.proofs.Conditions.{right_place}
 use Rattle.area.proofs.Conditions.{long_table}
 use Rattle.area.proofs.Settle.{at_sides, at_table, at_place, at_end}

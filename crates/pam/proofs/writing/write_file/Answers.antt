@@ -29,13 +29,11 @@ write_body-requires c = let a = c.args in record { fact_1 = subst (λ (z : FullS
 
 pub returns : goal.returns
 returns c =
-    let b = c.before.before.before in
-    let z = b.before in
     let a = c.args in
     let body = exported a.w a.h a.picture.now in
     let from = c.write_header-start.result in
-    let line = c.write_header-start.new.0 in
-    let part = c.write_body.new.0 in
+    let line = c.write_header-start.new.line in
+    let part = c.write_body.new.body in
     let new = put_mid from (c.file_length-end.result - from) line part in
     let end : c.file_length-end.result ≡ from + length body =
     omega (arith, c.file_length-end.ensures, c.write_header-start.ensures.0, length_recoloured outward a.w a.h a.picture.now) in
