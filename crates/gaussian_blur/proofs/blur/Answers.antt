@@ -1,9 +1,6 @@
 -- Refused, or the work of an accepted call.
-use mathlib.Core.Path.{◌≡◌, sym, ◌∙◌}
-use mathlib.Core.Bool.{false}
-use Rattle.picture.specs.Refusal.{wrong_sides}
+use mathlib.Core.Path.{sym, ◌∙◌}
 use Rattle.picture.proofs.Answers.{refused, done}
-use Rattle.gaussian_blur.specs.Needs.{BlurAccepted}
 use Rattle.gaussian_blur.specs.Outcome.{blur_outcome}
 use Rattle.gaussian_blur.proofs.Outcomes.{accepted}
 use Rattle.gaussian_blur.proofs.blur.Goals as goal
