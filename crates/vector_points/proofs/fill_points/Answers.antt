@@ -1,6 +1,4 @@
-use Prim.Native.Nat.{◌-◌}
 use native.Mathlib.Omega.{arith}
-use Rattle.vector_points.specs.Points.{point_in}
 use Rattle.picture.proofs.Filled.{fills_none, fills_more}
 use Rattle.vector_buffers.proofs.Filled.{fills_places}
 use Rattle.vector_points.proofs.fill_points.Goals as goal

@@ -1,5 +1,4 @@
 use mathlib.Core.List.{[]}
-use Prim.Native.Nat.{◌-◌}
 use native.Mathlib.Omega.{arith}
 use Rattle.vector_buffers.proofs.Pairs.{differ, told_not, told_so, alike_none, alike_more, alike_all}
 use Rattle.vector_pairs.proofs.lists.same_pairs.Goals as goal

@@ -1,4 +1,3 @@
-use Prim.Native.Nat.{◌-◌}
 use native.Mathlib.Omega.{arith}
 use Rattle.vector_values.specs.Values.{word_of}
 use Rattle.picture.proofs.Filled.{fills_none, fills_more}

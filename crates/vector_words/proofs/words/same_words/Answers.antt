@@ -1,4 +1,3 @@
-use Prim.Native.Nat.{◌-◌}
 use native.Mathlib.Omega.{arith}
 use Rattle.vector_buffers.proofs.Pairs.{differ, alike_none, alike_more, alike_all}
 use Rattle.vector_words.proofs.words.same_words.Goals as goal
