@@ -16,18 +16,10 @@ use Rattle.points.proofs.Rows.{rows_count}
 use Rattle.share_lists.specs.Listing.{points_left}
 use Rattle.share_lists.proofs.Products.{trimmed, list_full, list_taken}
 use Rattle.share_lists.proofs.listing.list_axes.Goals as goal
-use Rattle.share_lists.proofs.listing.list_axes.Lts as lts
-use Rattle.share_lists.proofs.listing.list_axes.Reads as reads
-use Rattle.share_lists.proofs.listing.list_axes.Tie as tie
-
-abbrev the_After-nonzeros-2 : Type 0
-the_After-nonzeros-2 = lts.After-nonzeros2 tie.the-claims reads.Pre reads.Post tie.handed_clauses
-
-abbrev the_Else-list-count : Type 0
-the_Else-list-count = lts.Else1 tie.the-claims reads.Pre reads.Post tie.handed_clauses
+use Rattle.share_lists.proofs.listing.list_axes.Goals.{After-nonzeros-2}
 
 -- the count is that of the points, and it fits
-counted : (c : the_After-nonzeros-2) →
+counted : (c : After-nonzeros-2) →
     let a = c.args in
     (c.nonzeros.result * c.nonzeros-2.result ≡ length (points_below (product_at (length a.xs.now) a.xs.now a.ys.now) (length a.ys.now * length a.xs.now))) ×
     (c.nonzeros.result * c.nonzeros-2.result ≤ 4294967296)
@@ -42,48 +34,38 @@ counted c =
           (omega (arith, y.ensures, count_le (line_of ys) (length ys), c.requires.fact_3, room_is)),
     )
 
+pub overflow_mul-count : goal.overflow_mul-count
+overflow_mul-count c = omega (arith, (counted (goal.at.overflow_mul-count c).After-nonzeros-2).1)
+
 pub returns-then-list-count : goal.returns-then-list-count
 returns-then-list-count c =
-    let n = c.before.before in
     let a = c.args in
-    list_full (points_below (product_at (length a.xs.now) a.xs.now a.ys.now) (length a.ys.now * length a.xs.now)) a.list.now (subst (λ (k : ℕ). length a.list.now < k) (counted n).0 c.if-list-count.true)
-
--- the list has room for the points
-roomy : (c : the_Else-list-count) →
-    let a = c.args in
-    length (points_below (product_at (length a.xs.now) a.xs.now a.ys.now) (length a.ys.now * length a.xs.now)) ≤ length a.list.now
-roomy c = let a = c.args in subst (λ (k : ℕ). k ≤ length a.list.now) (counted c.before).0 c.if-list-count.false
+    list_full (points_below (product_at (length a.xs.now) a.xs.now a.ys.now) (length a.ys.now * length a.xs.now)) a.list.now
+    (subst (λ (k : ℕ). length a.list.now < k) (counted (goal.at.returns-then-list-count c).After-nonzeros-2).0 c.if-list-count.true)
 
 pub write_rows-requires : goal.write_rows-requires
 write_rows-requires c =
-    let end = c.before.before.before in
-    let s = end.before.before.before.before.before.before in
-    let xs = s.args.xs.now in
-    let ys = s.args.ys.now in
+    let a = c.args in
+    let xs = a.xs.now in
+    let ys = a.ys.now in
     let cut = c.end_nonzero-end.ensures in
+    let room = subst (λ (k : ℕ). k ≤ length a.list.now) (counted (goal.at.write_rows-requires c).After-nonzeros-2).0 c.if-list-count.false in
     record {
-      low = s.requires.0;
-      wide = s.requires.1.0;
+      low = c.requires.fact_1;
+      wide = c.requires.fact_2;
       within = omega (arith, length-take-le c.end_nonzero-end.result xs cut.high, cut.high);
-      tall = s.requires.1.1;
-      fits = subst (λ (f : ℕ → ℕ). length (points_below f (length ys * length xs)) ≤ length s.args.list.now) (sym (trimmed xs c.end_nonzero-end.result cut (length xs) ys)) (roomy end.before);
+      tall = c.requires.fact_3;
+      fits = subst (λ (f : ℕ → ℕ). length (points_below f (length ys * length xs)) ≤ length a.list.now) (sym (trimmed xs c.end_nonzero-end.result cut (length xs) ys)) room;
     }
 
 pub returns : goal.returns
 returns c =
-    let call = c.before.before in
-    let end = call.before.before.before in
-    let s = end.before.before.before.before.before.before in
-    let xs = s.args.xs.now in
-    let ys = s.args.ys.now in
-    let list = s.args.list.now in
+    let a = c.args in
+    let xs = a.xs.now in
+    let ys = a.ys.now in
+    let list = a.list.now in
+    let all = (counted (goal.at.returns c).After-nonzeros-2).0 in
     ap₂ (λ (l : List (List ℕ)) (k : ℕ). answered 0 (points_left l k))
     (c.write_rows.ensures ∙ ap (λ (f : ℕ → ℕ). laid_entries (points_below f (length ys * length xs)) list) (trimmed xs c.end_nonzero-end.result c.end_nonzero-end.ensures (length xs) ys))
-    (counted end.before.before).0
-    ∙ list_taken (points_below (product_at (length xs) xs ys) (length ys * length xs)) list (roomy end.before)
-
-pub overflow_mul-count : goal.overflow_mul-count
-overflow_mul-count c = omega (arith, (counted c.before).1)
-
-pub slice_bounds-write_rows-end : goal.slice_bounds-write_rows-end
-slice_bounds-write_rows-end c = sym (length-take-le _ _ c.end_nonzero-end.ensures.high)
+    all
+    ∙ list_taken (points_below (product_at (length xs) xs ys) (length ys * length xs)) list (subst (λ (k : ℕ). k ≤ length list) all c.if-list-count.false)

@@ -11,6 +11,6 @@ pub returns : goal.returns
 returns c =
     let a = c.args in
     let i = c.requires.fact_4 in
-    sym (get_or-take a.side.s c.fill_axis.new.1.0 a.i 0 i)
+    sym (get_or-take a.side.s c.fill_axis.new.row a.i 0 i)
     ∙ ap (λ (l : List ℕ). get_or l a.i 0) c.fill_axis.ensures.row_after
     ∙ get_or-build a.side.s _ a.i i

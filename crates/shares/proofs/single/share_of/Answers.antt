@@ -12,19 +12,22 @@ use Rattle.shares.proofs.single.share_of.Goals as goal
 pub axis_share-x-requires : goal.axis_share-x-requires
 axis_share-x-requires c =
     let p = c.requires in
-    rw (c.across.ensures, c.width-w.ensures) (across_asked p.0, mod-lt c.args.place p.0.sides.w_low)
+    rw (c.across.ensures, c.width-w.ensures) (record { fact_1 = across_asked p.fact_1; fact_2 = mod-lt c.args.place p.fact_1.sides.w_low })
 
 pub axis_share-y-requires : goal.axis_share-y-requires
 axis_share-y-requires c =
     let p = c.requires in
     rw (c.down.ensures, c.width-w.ensures)
-    (down_asked p.0, (div-lt_iff_lt-mul p.0.sides.w_low).1 (omega (arith, p.1, mul_comm c.args.size.w c.args.size.h)))
+    (record {
+      fact_1 = down_asked p.fact_1;
+      fact_2 = (div-lt_iff_lt-mul p.fact_1.sides.w_low).1 (omega (arith, p.fact_2, mul_comm c.args.size.w c.args.size.h));
+    })
 
 pub overflow_mul-result : goal.overflow_mul-result
 overflow_mul-result c =
     let x = c.axis_share-x in
     let y = c.axis_share-y in
-    omega (arith, area x.result y.result x.type-inv y.type-inv)
+    omega (arith, area x.result y.result x.type_inv y.type_inv)
 
 pub returns : goal.returns
 returns c =
