@@ -1,5 +1,5 @@
 -- A failing pixel is listed and lowered; another one stays, and no entry is written.
-use mathlib.Core.Path.{◌≡◌, refl, sym, ap, ◌∙◌}
+use mathlib.Core.Path.{◌≡◌, sym, ap, ◌∙◌}
 use native.Mathlib.Omega.{arith}
 use Rattle.pixels.specs.Pixels.{pixel_at, with_pixel}
 use Rattle.pixels.specs.Channels.{exceeds, exceeds_at}

@@ -1,15 +1,14 @@
 -- The count decides: too many for the list, none at all, or each is mended.
-use mathlib.Core.Path.{◌≡◌, sym, ap, ◌∙◌}
+use mathlib.Core.Path.{◌≡◌, ◌∙◌}
 use mathlib.Core.Bool.{false}
 use Prim.Native.Nat.{◌*◌, ◌/◌}
 use native.Mathlib.Omega.{arith}
 use borrow.Author.Tests.{lt-ltb, le-ltb}
 use lib.Dec.{ltb}
 use lib.ListN.{length}
-use Rattle.picture.specs.Answer.{answered, settled}
+use Rattle.picture.specs.Answer.{settled}
 use Rattle.picture.specs.Refusal.{first_else, first_of}
 use Rattle.mending.specs.Outcome.{failing}
-use Rattle.mending.proofs.Passing.{nothing_failing}
 use Rattle.mending.proofs.mender.mend_whole.Goals as goal
 use Rattle.mending.proofs.mender.mend_whole.Goals.{After-count_exceeding-count, Else-list-count}
 
