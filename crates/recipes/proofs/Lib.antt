@@ -1,6 +1,5 @@
 -- Laws of the recipes of a list, one after the other; of what is found; of one call; of what a chain comes to; of what the contract promises and determines; and of a slice that is lent again.
 pub mod Folds
-pub mod Again
 pub mod Found
 pub mod OneCall
 pub mod Done
