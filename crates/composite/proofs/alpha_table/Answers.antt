@@ -1,6 +1,4 @@
-use Prim.Native.Nat.{◌-◌}
 use native.Mathlib.Omega.{arith}
-use Rattle.composite.specs.Channels.{shadow_alpha}
 use Rattle.picture.proofs.Filled.{fills_none, fills_more, fills_build}
 use Rattle.composite.proofs.alpha_table.Goals as goal
 

@@ -1,10 +1,10 @@
 use mathlib.Core.Path.{◌∙◌, ap₂, sym}
-use Prim.Native.Nat.{◌+◌, ◌-◌, ◌*◌, ◌≤◌}
+use Prim.Native.Nat.{◌+◌, ◌*◌, ◌≤◌}
 use native.Mathlib.Omega.{arith}
 use lib.ListN.{length}
 use Rattle.composite.specs.Shadow.{over_pixel}
 use Rattle.composite.specs.Plane.{tint_on}
-use Rattle.pixels.proofs.Painting.{begins, at, chan_here, next, turn, ends}
+use Rattle.pixels.proofs.Painting.{begins, chan_here, next, turn, ends}
 use Rattle.composite.proofs.Laid.{plane_here}
 use Rattle.composite.proofs.lay_pixels.Goals as goal
 use Rattle.composite.proofs.lay_pixels.Lts as lts

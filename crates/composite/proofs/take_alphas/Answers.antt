@@ -1,5 +1,4 @@
 use mathlib.Core.Path.{refl}
-use Prim.Native.Nat.{◌-◌}
 use native.Mathlib.Omega.{arith}
 use Rattle.composite.specs.Plane.{alphas_in}
 use Rattle.picture.proofs.Filled.{fills_none, fills_more, fills_build}
