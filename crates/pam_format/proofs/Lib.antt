@@ -1,5 +1,6 @@
 -- Laws of the definitions of specs/, for this crate's proofs and for those above it.
 pub mod Decimals
+pub mod Counts
 pub mod Lines
 pub mod Numbers
 pub mod Starts

@@ -39,7 +39,8 @@ pub fn plate_start(buffer: &mut [u8], version: u32) -> Started
     if !plate_numbers::known(version) {
         return Started::NotStarted(StartRefusal::UnknownVersion);
     }
-    if buffer.len() < plate_format::HEADER {
+    let short = buffer.len() < plate_format::HEADER;
+    if short {
         return Started::NotStarted(StartRefusal::NoHeaderRoom);
     }
     plate_table::fields::put_header(buffer, version as u16, 0);

@@ -1,5 +1,4 @@
 use mathlib.Core.Path.{refl, sym, ◌∙◌}
-use Prim.Native.Nat.{◌-◌}
 use native.Mathlib.Omega.{arith}
 use Rattle.pam_format.specs.Format.{side_at}
 use Rattle.pam_format.proofs.Numbers.{ended, below, above, full, goes}

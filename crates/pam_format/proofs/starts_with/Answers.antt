@@ -1,5 +1,4 @@
 use mathlib.Core.Path.{refl, sym, ◌∙◌}
-use Prim.Native.Nat.{◌-◌}
 use native.Mathlib.Omega.{arith}
 use Rattle.pam_format.proofs.Starts.{differs, same, all_same}
 use Rattle.pam_format.proofs.starts_with.Goals as goal
