@@ -1,5 +1,5 @@
 use mathlib.Core.Path.{refl, ap₂}
-use Prim.Native.Nat.{◌+◌, ◌-◌}
+use Prim.Native.Nat.{◌+◌}
 use native.Mathlib.Omega.{arith}
 use Rattle.picture.proofs.Spans.{span_none, span_more, span_ends}
 use Rattle.grid_sums.proofs.add_lanes.Goals as goal

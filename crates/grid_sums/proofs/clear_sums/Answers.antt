@@ -1,5 +1,4 @@
 use mathlib.Core.Path.{refl}
-use Prim.Native.Nat.{◌-◌}
 use native.Mathlib.Omega.{arith}
 use Rattle.picture.proofs.Spans.{span_none, span_more, span_ends}
 use Rattle.grid_sums.proofs.clear_sums.Goals as goal

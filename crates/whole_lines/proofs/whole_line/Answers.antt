@@ -1,7 +1,6 @@
 use mathlib.Core.Path.{refl, ◌∙◌}
-use Prim.Native.Nat.{◌+◌, ◌*◌, ◌-◌, ◌≤◌, ◌<◌, ◌^◌}
+use Prim.Native.Nat.{◌+◌, ◌*◌, ◌≤◌, ◌<◌, ◌^◌}
 use native.Mathlib.Omega.{arith}
-use lib.ListN.{length}
 use Rattle.picture.proofs.Spans.{span_none, span_ends}
 use Rattle.grid_sums.specs.Sums.{whole_convolve}
 use Rattle.whole_lines.proofs.Runs.{run_more}
