@@ -59,7 +59,8 @@ fn append(
     let end = plate_format::table_end(&buffer[0..used]);
     let start = new.offset as usize;
     let whole = start + picture.len();
-    picture::copy_forward(buffer, end, end + (start - used), used - end);
+    let further = start - used;
+    picture::copy_forward(buffer, end, end + further, used - end);
     plate_table::retable(buffer, new);
     pixels::copy_bytes(&mut buffer[start..whole], picture);
     whole

@@ -32,8 +32,8 @@ table_end-end-requires c = rw (sub-zero c.args.used) (tabled c.requires)
 end : (c : After-table_end-end) → let a = c.args in c.table_end-end.result ≡ body_offset (in_use a.buffer.now a.used) 0
 end c = c.table_end-end.ensures ∙ rw (sub-zero c.args.used)
 
-pub overflow_sub-start : goal.overflow_sub-start
-overflow_sub-start c = omega (arith, start (goal.at.overflow_sub-start c).After-new_entry-new)
+pub overflow_sub-further : goal.overflow_sub-further
+overflow_sub-further c = omega (arith, start (goal.at.overflow_sub-further c).After-new_entry-new)
 
 pub overflow_add-end : goal.overflow_add-end
 overflow_add-end c =
