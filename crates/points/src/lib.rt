@@ -61,7 +61,8 @@ fn write_row(
     let mut k = k;
     let mut x = from;
     while x < xs.len() {
-        list[k] = entry_at(y * w + x, xs[x], v);
+        let place = y * w + x;
+        list[k] = entry_at(place, xs[x], v);
         k += 1;
         x = next_nonzero(xs, x + 1);
     }

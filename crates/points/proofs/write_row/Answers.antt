@@ -49,11 +49,11 @@ offset_bounds-ys-y c = omega (arith, c.requires.inside)
 pub bounds-ys-y : goal.bounds-ys-y
 bounds-ys-y c = c.requires.inside
 
-pub overflow_mul-y : goal.overflow_mul-y
-overflow_mul-y c = omega (arith, small (goal.at.overflow_mul-y c).In-loop-x)
+pub overflow_mul-place : goal.overflow_mul-place
+overflow_mul-place c = omega (arith, small (goal.at.overflow_mul-place c).In-loop-x)
 
-pub overflow_add-y : goal.overflow_add-y
-overflow_add-y c = omega (arith, small (goal.at.overflow_add-y c).In-loop-x)
+pub overflow_add-place : goal.overflow_add-place
+overflow_add-place c = omega (arith, small (goal.at.overflow_add-place c).In-loop-x)
 
 pub entry_at-requires : goal.entry_at-requires
 entry_at-requires c = tt

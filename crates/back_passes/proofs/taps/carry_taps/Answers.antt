@@ -1,5 +1,5 @@
 use mathlib.Core.Path.{◌≡◌, refl, ◌∙◌, subst}
-use Prim.Native.Nat.{ℕ, ◌+◌, ◌-◌, ◌*◌, ◌≤◌}
+use Prim.Native.Nat.{ℕ, ◌+◌, ◌*◌, ◌≤◌}
 use native.Mathlib.Omega.{arith}
 use lib.ListN.{length, get_or}
 use Rattle.edges.specs.Edges.{sample}
@@ -32,12 +32,15 @@ overflow_mul-v c =
     omega (arith, room (goal.at.overflow_mul-v c).In-loop-j, c.requires.room)
 
 pub add_tap-requires : goal.add_tap-requires
-add_tap-requires c = let l = c.loop-j in record { fact_1 = record {
-        s_low = omega (arith, l.invariant.1, c.requires.sized.low);
-        s_high = omega (arith, l.invariant.1, c.requires.sized.high);
-        c_high = omega (arith, c.requires.far);
-        d_high = c.requires.near;
-      }; fact_2 = omega (arith, room (goal.at.add_tap-requires c).In-loop-j, c.requires.room) }
+add_tap-requires c = let l = c.loop-j in record {
+  fact_1 = record {
+    s_low = omega (arith, l.invariant.1, c.requires.sized.low);
+    s_high = omega (arith, l.invariant.1, c.requires.sized.high);
+    c_high = omega (arith, c.requires.far);
+    d_high = c.requires.near;
+  };
+  fact_2 = omega (arith, room (goal.at.add_tap-requires c).In-loop-j, c.requires.room);
+}
 
 pub loop-j-preserved : goal.loop-j-preserved
 loop-j-preserved c =
