@@ -1,6 +1,5 @@
 -- The picture's alphas are cast, and what is written is the picture with the shadow of that plane.
 use mathlib.Core.Path.{◌∙◌, sym}
-use borrow.Author.Rules.{rules}
 use Rattle.picture.specs.Planes.{chan}
 use Rattle.picture.proofs.Planes.{painted_same}
 use Rattle.composite.proofs.Laid.{alphas_plane}
