@@ -1,9 +1,6 @@
 -- Refused, or the work of an accepted call.
-use mathlib.Core.Path.{◌≡◌, sym, ◌∙◌}
-use mathlib.Core.Bool.{false}
-use Rattle.picture.specs.Refusal.{wrong_sides}
+use mathlib.Core.Path.{sym, ◌∙◌}
 use Rattle.picture.proofs.Answers.{refused, done}
-use Rattle.whole_blur.specs.Needs.{WholeAccepted}
 use Rattle.whole_blur.specs.Outcome.{whole_outcome}
 use Rattle.whole_blur.proofs.Outcomes.{whole_passes}
 use Rattle.whole_blur.proofs.blur_whole.Goals as goal
