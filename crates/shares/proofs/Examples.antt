@@ -1,7 +1,6 @@
 -- Calls of `share` worked out, from the definitions.
 use mathlib.Core.Path.{◌≡◌, refl}
-use mathlib.Core.List.{List, [], ◌∷◌}
-use Prim.Native.Nat.{ℕ}
+use mathlib.Core.List.{[], ◌∷◌}
 use Rattle.picture.specs.Sizes.{max_side}
 use Rattle.picture.specs.Modes.{mode_of}
 use Rattle.picture.specs.Refusal.{first_else, first_of, zero_or_above, wrong_sides, max_taps, wrong_taps, wrong_edge}

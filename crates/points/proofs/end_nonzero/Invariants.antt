@@ -1,5 +1,4 @@
 -- Every element from the i-th on is 0.
-use Prim.Native.Nat.{◌-◌}
 use Rattle.points.specs.Needs.{EndNonzero}
 use Rattle.points.proofs.end_nonzero.Given as goal
 

@@ -15,7 +15,7 @@ loop-i-preserved c =
     let i = c.loop-i.i in
     rw add-one
     (ap (all_noted table (suc i) (drop (suc i) steps))
-      (c.look_at-found.ensures ∙ ap (λ (step : Step). noted c.loop-i.found i (own_number table step)) c.step_at-step.ensures)
+    (c.look_at-found.ensures ∙ ap (λ (step : Step). noted c.loop-i.found i (own_number table step)) c.step_at-step.ensures)
     ∙ sym (noted_more table steps i c.loop-i.found c.loop-i-test.true)
     ∙ c.loop-i.invariant)
 

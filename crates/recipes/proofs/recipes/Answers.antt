@@ -3,10 +3,9 @@ use Rattle.std.proofs.Common.{◌≡◌, suc, ◌∙◌, sym, ap, add-one, lengt
 use Rattle.picture.specs.Answer.{lent_copy}
 use Rattle.picture.specs.Refusal.{first_of}
 use Rattle.recipe_checks.specs.declared.Step.{Step}
-use Rattle.recipe_checks.specs.declared.Chained.{Chained}
 use Rattle.recipe_checks.specs.Own.{frame_checks, found}
 use Rattle.recipe_checks.specs.Single.{ran_step}
-use Rattle.recipes.specs.Chain.{step_at, all_noted, all_ran, chain_answer}
+use Rattle.recipes.specs.Chain.{step_at, all_noted, all_ran}
 use Rattle.recipes.proofs.Folds.{ran_more, none_ran}
 use Rattle.recipes.proofs.Done.{roomy, comes_to}
 use Rattle.recipes.proofs.recipes.Goals.{After-first_bad-found}
