@@ -1,6 +1,5 @@
 use mathlib.Core.Path.{◌≡◌, refl}
 use mathlib.Core.List.{append-nil}
-use Prim.Native.Nat.{◌-◌}
 use native.Mathlib.Omega.{arith}
 use lib.ListN.{length, get_or, length-set}
 use lib.Seq.{drop-length}
@@ -14,12 +13,11 @@ unfolding build
 loop-i-init c = (omega arith, refl, refl)
 
 pub loop-i-preserved : goal.loop-i-preserved
-loop-i-preserved c =
-    (
-      omega arith,
-      rw (c.premultiply.ensures, c.loop-i.invariant.1) (build_more (λ j. premultiply (get_or c.args.body.now j 0) (get_or c.args.factors.now j 0)) c.args.picture.now c.loop-i.i (omega arith)),
-      simp length-set c.loop-i.invariant.2,
-    )
+loop-i-preserved c = (
+  omega arith,
+  rw (c.premultiply.ensures, c.loop-i.invariant.1) (build_more (λ j. premultiply (get_or c.args.body.now j 0) (get_or c.args.factors.now j 0)) c.args.picture.now c.loop-i.i (omega arith)),
+  simp length-set c.loop-i.invariant.2,
+)
 
 pub returns : goal.returns
 returns c =

@@ -1,6 +1,6 @@
 use mathlib.Core.Path.{◌≡◌, refl}
 use mathlib.Core.List.{append-nil}
-use Prim.Native.Nat.{◌-◌, ◌<◌}
+use Prim.Native.Nat.{◌<◌}
 use native.Mathlib.Omega.{arith}
 use lib.ListN.{length, get_or, length-set}
 use lib.Seq.{drop-length}
@@ -24,8 +24,7 @@ new_word-requires c e = rw (next c.before.before.before (omega arith)) (c.requir
 
 pub loop-k-preserved : goal.loop-k-preserved
 loop-k-preserved c =
-    let l = c.before.before.before in
-    (
+    let l = c.before.before.before in (
       omega arith,
       rw (c.new_word.ensures, next l (omega arith), c.loop-k.invariant.1) (build_more (λ j. new_word c.args.out (get_or c.args.words.now j 0)) c.args.words.now c.loop-k.k (omega arith)),
       simp length-set c.loop-k.invariant.2,

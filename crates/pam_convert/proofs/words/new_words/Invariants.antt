@@ -1,7 +1,7 @@
 -- The first k words are made anew, and the others are as they were.
 use mathlib.Core.Path.{◌≡◌}
 use mathlib.Core.List.{◌++◌}
-use Prim.Native.Nat.{◌+◌, ◌-◌, ◌≤◌}
+use Prim.Native.Nat.{◌-◌, ◌≤◌}
 use lib.ListN.{length, get_or, drop}
 use Rattle.picture.specs.Build.{build}
 use Rattle.pam_convert.specs.Straight.{new_word}
