@@ -96,8 +96,8 @@ module _ {outputs row : List ℕ} {s n : ℕ} {ms : List ℕ} (r : LineReady out
       pub up_ready : PassReady Halve (take k (row₂ ++ drop k out₁)) (out₂ ++ drop k (row₁ ++ drop k row)) ms
       up_ready =
           let up =
-              up_room (n - 1) (total outputs) room (total row₁) (down_total mode ms outputs row₁ (half s) down) (total row₂)
-              (through_total mode ms r.kernel row₁ row₂ (n - 1) (half s) through) in
+          up_room (n - 1) (total outputs) room (total row₁) (down_total mode ms outputs row₁ (half s) down) (total row₂)
+          (through_total mode ms r.kernel row₁ row₂ (n - 1) (half s) through) in
           record {
             sized = record { low = omega (arith, row_whole, r.low); high = omega (arith, row_whole, r.high) };
             kernel = r.kernel;
@@ -109,8 +109,8 @@ module _ {outputs row : List ℕ} {s n : ℕ} {ms : List ℕ} (r : LineReady out
       pub line_carried : (row₃ : List ℕ) → Carried (take k (row₂ ++ drop k out₁)) row₃ (exact_halve mode (length (out₂ ++ drop k (row₁ ++ drop k row)))) → Carried outputs row₃ (exact_line mode ms n s)
       line_carried row₃ h =
           let up =
-              subst (λ (m : ℕ). Carried row₂ row₃ (exact_halve mode m)) row_whole
-              (subst (λ (p : List ℕ). Carried p row₃ (exact_halve mode (length (out₂ ++ drop k (row₁ ++ drop k row))))) part₂ h) in
+          subst (λ (m : ℕ). Carried row₂ row₃ (exact_halve mode m)) row_whole
+          (subst (λ (p : List ℕ). Carried p row₃ (exact_halve mode (length (out₂ ++ drop k (row₁ ++ drop k row))))) part₂ h) in
           subst (λ (m : ℕ). Carried outputs row₃ (exact_line mode ms m s)) (sym one_more)
           (line_step mode ms outputs row₁ row₂ row₃ (n - 1) s down through up)
 
