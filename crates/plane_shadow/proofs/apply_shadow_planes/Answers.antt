@@ -2,7 +2,6 @@
 use mathlib.Core.Path.{◌∙◌}
 use Prim.Native.Nat.{◌-◌, ◌*◌}
 use native.Mathlib.Omega.{arith}
-use borrow.Author.Rules.{rules}
 use lib.ListN.{length}
 use Rattle.plane_shadow.proofs.Cast.{planes_shadowed}
 use Rattle.plane_shadow.proofs.apply_shadow_planes.Goals as goal

@@ -1,5 +1,4 @@
 use mathlib.Core.Path.{sym}
-use Prim.Native.Nat.{◌-◌}
 use native.Mathlib.Omega.{arith}
 use Rattle.composite.specs.Plane.{tint_on}
 use Rattle.composite.proofs.Laid.{plane_here}
