@@ -1,7 +1,7 @@
 -- What the checks of an export have shown.
 use Rattle.std.specs.Prelude.{◌≡◌, false, List, ℕ, length}
 use Rattle.picture.specs.Refusal.{wrong_sides, wrong_length}
-use Rattle.grading.specs.Premultiplied.{Finding, none, scanned}
+use Rattle.grading.specs.Premultiplied.{Finding, scanned}
 
 -- checks 1 and 2 let the picture through, and its scan came to this
 pub record Passed (picture : List ℕ) (w h : ℕ) (f : Finding) : Type 0 where

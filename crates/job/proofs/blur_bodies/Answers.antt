@@ -1,4 +1,4 @@
-use Prim.Native.Nat.{◌-◌, ◌<◌}
+use Prim.Native.Nat.{◌<◌}
 use native.Mathlib.Omega.{arith}
 use Rattle.plate_numbers.specs.Numbers.{count}
 use Rattle.plate_format.proofs.Rules.{plate_tabled}

@@ -1,10 +1,8 @@
 -- Each way out is the answer of the check that led there; past the checks the bodies are blurred.
-use mathlib.Core.Path.{◌≡◌, ◌∙◌, sym}
-use mathlib.Core.Bool.{true}
+use mathlib.Core.Path.{◌∙◌, sym}
 use Prim.Native.Nat.{◌≤◌}
 use native.Mathlib.Omega.{arith}
 use lib.ListN.{length}
-use Rattle.plate_format.specs.Format.{is_plate}
 use Rattle.plate_format.proofs.Rules.{plate_tabled}
 use Rattle.body_blur.specs.Blur.{plate_blur}
 use Rattle.job.specs.Job.{longest_body}

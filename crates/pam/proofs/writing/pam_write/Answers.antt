@@ -1,5 +1,5 @@
 -- Each answer of the check is the file's, or leads to the file of a picture that passed.
-use mathlib.Core.Path.{◌≡◌, sym, ap, ◌∙◌}
+use mathlib.Core.Path.{sym, ap, ◌∙◌}
 use Rattle.grading.specs.Premultiplied.{none, finding}
 use Rattle.pam.proofs.Exports.{past_both, refused_picture, refused_place}
 use Rattle.pam.proofs.writing.pam_write.Goals as goal

@@ -4,9 +4,7 @@ use mathlib.Core.Bool.{Bool, true, false, true≢false}
 use Prim.Native.Nat.{◌*◌, ◌/◌}
 use native.Mathlib.Omega.{arith}
 use borrow.Author.Tests.{eqb-true}
-use lib.ListN.{length}
 use Rattle.picture.specs.Planes.{bytes_of}
-use Rattle.picture.specs.Refusal.{wrong_sides, wrong_length}
 use Rattle.picture.specs.Sizes.{full_bytes, FullSized}
 use Rattle.picture.proofs.Conditions.{right_length}
 use Rattle.picture.proofs.Sizes.{full_sized}
