@@ -10,16 +10,7 @@ ghost use Rattle.pam_format.specs.Format.{side_at, width_in, height_in, begins_w
 use pixels::copy_bytes;
 
 // How many digits a number below 100000 has.
-#[tactic(
-    auto,
-    using(
-        crate::proofs::Counts::one_digit,
-        crate::proofs::Counts::two_digits,
-        crate::proofs::Counts::three_digits,
-        crate::proofs::Counts::four_digits,
-        crate::proofs::Counts::five_digits,
-    )
-)]
+#[tactic(auto, using(crate::proofs::Counts::one_digit, crate::proofs::Counts::two_digits, crate::proofs::Counts::three_digits, crate::proofs::Counts::four_digits, crate::proofs::Counts::five_digits))]
 fn digits(n: u32) -> usize
     ensures { result ≡ digit_count n }
 {
