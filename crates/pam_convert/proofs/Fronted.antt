@@ -10,13 +10,13 @@ use lib.Seq.{get_or-take, length-take-le}
 use borrow.Author.Tests.{eqb-true}
 use borrow.Rule.Slice.PartMut.{put_mid}
 use Rattle.picture.specs.Build.{build}
-use Rattle.picture.specs.Planes.{laid}
+use Rattle.picture.specs.Planes.{bytes_of, laid}
 use Rattle.picture.proofs.Build.{build_ext}
 use Rattle.opaque.specs.Front.{Front}
-use Rattle.pam_convert.specs.Straight.{anew_at, rule}
+use Rattle.pam_convert.specs.Straight.{recoloured, anew_at, rule}
 use Rattle.pam_convert.specs.Needs.{Fit}
 use Rattle.pam_convert.proofs.Straight.{rule_opaque}
-use Rattle.pam_convert.proofs.Anew.{part_fits, joined}
+use Rattle.pam_convert.proofs.Anew.{part_fits, joined, all_anew}
 
 module _ (out : Bool) {from to mid : List ℕ} {n : ℕ} (f : Front from to n mid) (pixels : length to % 4 ≡ 0) (same : length from ≡ length to) where
   abbrev first : List ℕ
@@ -52,11 +52,17 @@ module _ (out : Bool) {from to mid : List ℕ} {n : ℕ} (f : Front from to n mi
       )
 
   -- with it, all
-  pub fronted : (rest : List ℕ) → rest ≡ build (length (take (length mid - n) (drop n mid))) (anew_at (rule out) (take (length from - n) (drop n from))) →
+  pub front_anew : (rest : List ℕ) → rest ≡ build (length (take (length mid - n) (drop n mid))) (anew_at (rule out) (take (length from - n) (drop n from))) →
       put_mid n (length mid - n) mid rest ≡ build (length to) (anew_at (rule out) from)
-  fronted rest g =
+  front_anew rest g =
       let copied : first ≡ build (length (take n to)) (anew_at (rule out) first) =
       build_ext n (anew_at (rule out) first) first long kept ∙ ap (λ (k : ℕ). build k (anew_at (rule out) first)) (sym (length-take-le n to (omega (arith, f.inside)))) in
       let made = g ∙ ap (λ (l : List ℕ). build (length (take (length l - n) (drop n l))) (anew_at (rule out) (take (length from - n) (drop n from)))) line in
       ap (λ (l : List ℕ). put_mid n (length l - n) l rest) line
       ∙ joined (rule out) from to first rest n (omega (arith, f.inside)) f.pixels pixels same copied made
+
+  -- the same of a picture of w by h pixels
+  pub fronted : (w h : ℕ) (rest : List ℕ) → length to ≡ bytes_of w h →
+      rest ≡ build (length (take (length mid - n) (drop n mid))) (anew_at (rule out) (take (length from - n) (drop n from))) →
+      put_mid n (length mid - n) mid rest ≡ recoloured (rule out) w h from
+  fronted w h rest size g = front_anew rest g ∙ ap (λ (k : ℕ). build k (anew_at (rule out) from)) size ∙ all_anew (rule out) w h from

@@ -1,5 +1,5 @@
 -- The opaque pixels in front and the rest are all of it.
-use Rattle.pam_convert.proofs.Fronted.{left, fronted}
+use Rattle.pam_convert.proofs.Fronted.{left, front_anew}
 use Rattle.pam_convert.proofs.bodies.convert_body.Goals as goal
 
 pub convert-requires : goal.convert-requires
@@ -7,4 +7,4 @@ convert-requires c = let rest = left c.args.out c.copy_opaque-front.ensures c.re
 
 pub returns : goal.returns
 returns c =
-    fronted c.args.out c.copy_opaque-front.ensures c.requires.fact_2 c.requires.fact_1 _ c.convert.ensures
+    front_anew c.args.out c.copy_opaque-front.ensures c.requires.fact_2 c.requires.fact_1 _ c.convert.ensures
