@@ -25,29 +25,20 @@ tap_of p stride weight = record { at = offset_of p stride; weight = weight_of p 
 -- the taps that read four places in weights 1, 3, 3, 1
 abbrev pub taps_of : At → At → At → At → ℕ → Taps
 taps_of a b c d stride =
-    record {
-      a = offset_of a stride;
-      b = offset_of b stride;
-      c = offset_of c stride;
-      d = offset_of d stride;
-      wa = weight_of a 1;
-      wb = weight_of b 3;
-      wc = weight_of c 3;
-      wd = weight_of d 1;
-    }
+    record { a = tap_of a stride 1; b = tap_of b stride 3; c = tap_of c stride 3; d = tap_of d stride 1 }
 
 -- byte k of the taps of the line at start, in their weights, over 8, rounded
 abbrev pub tapped : List ℕ → ℕ → Taps → ℕ → ℕ
 tapped src start t k =
-    (t.wa * get_or src (start + t.a + k) 0 + t.wb * get_or src (start + t.b + k) 0 + t.wc * get_or src (start + t.c + k) 0 + t.wd * get_or src (start + t.d + k) 0 + 4) / 8
+    (t.a.weight * get_or src (start + t.a.at + k) 0 + t.b.weight * get_or src (start + t.b.at + k) 0 + t.c.weight * get_or src (start + t.c.at + k) 0 + t.d.weight * get_or src (start + t.d.at + k) 0 + 4) / 8
 
 -- taps whose bytes lie within src and whose weights do not pass 8 together, and an element within dst
 pub record Blendable (src dst : List ℕ) (t : Taps) (start stride o : ℕ) : Type 0 where
-  pub a_ends : start + t.a + stride ≤ length src
-  pub b_ends : start + t.b + stride ≤ length src
-  pub c_ends : start + t.c + stride ≤ length src
-  pub d_ends : start + t.d + stride ≤ length src
-  pub weights : t.wa + t.wb + t.wc + t.wd ≤ 8
+  pub a_ends : start + t.a.at + stride ≤ length src
+  pub b_ends : start + t.b.at + stride ≤ length src
+  pub c_ends : start + t.c.at + stride ≤ length src
+  pub d_ends : start + t.d.at + stride ≤ length src
+  pub weights : t.a.weight + t.b.weight + t.c.weight + t.d.weight ≤ 8
   pub o_ends : o + stride ≤ length dst
 
 -- a line of len elements that the arithmetic has room for
@@ -58,11 +49,11 @@ pub record LineRoom (len stride : ℕ) : Type 0 where
 
 -- taps whose bytes lie within a line of len elements, in weights of at most 8 together
 pub record Fit (t : Taps) (len stride : ℕ) : Type 0 where
-  pub a_ends : t.a + stride ≤ len * stride
-  pub b_ends : t.b + stride ≤ len * stride
-  pub c_ends : t.c + stride ≤ len * stride
-  pub d_ends : t.d + stride ≤ len * stride
-  pub weights : t.wa + t.wb + t.wc + t.wd ≤ 8
+  pub a_ends : t.a.at + stride ≤ len * stride
+  pub b_ends : t.b.at + stride ≤ len * stride
+  pub c_ends : t.c.at + stride ≤ len * stride
+  pub d_ends : t.d.at + stride ≤ len * stride
+  pub weights : t.a.weight + t.b.weight + t.c.weight + t.d.weight ≤ 8
 
 -- taps of a line of len elements that make output y of a pass over it
 pub record Output (f : Pass) (len stride y : ℕ) (t : Taps) : Type 0 where

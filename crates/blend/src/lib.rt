@@ -23,14 +23,10 @@ struct Tap {
 // The four taps of an output.
 #[derive(Clone, Copy)]
 pub struct Taps {
-    a: usize,
-    b: usize,
-    c: usize,
-    d: usize,
-    wa: u16,
-    wb: u16,
-    wc: u16,
-    wd: u16,
+    a: Tap,
+    b: Tap,
+    c: Tap,
+    d: Tap,
 }
 
 // The bytes of a place, in a weight. Outside they are the line's first, in weight 0, so that a loop over lanes has no branch.
@@ -52,19 +48,11 @@ fn taps_of(a: At, b: At, c: At, d: At, stride: usize) -> Taps
     requires { (offset_of a stride < 2 ^ 64) × (offset_of b stride < 2 ^ 64) × (offset_of c stride < 2 ^ 64) × (offset_of d stride < 2 ^ 64) }
     ensures { result ≡ taps_of a b c d stride }
 {
-    let ta = tap_of(a, stride, 1);
-    let tb = tap_of(b, stride, 3);
-    let tc = tap_of(c, stride, 3);
-    let td = tap_of(d, stride, 1);
     Taps {
-        a: ta.at,
-        b: tb.at,
-        c: tc.at,
-        d: td.at,
-        wa: ta.weight,
-        wb: tb.weight,
-        wc: tc.weight,
-        wd: td.weight,
+        a: tap_of(a, stride, 1),
+        b: tap_of(b, stride, 3),
+        c: tap_of(c, stride, 3),
+        d: tap_of(d, stride, 1),
     }
 }
 
@@ -107,23 +95,21 @@ fn blend_lanes(src: &[u8], start: usize, stride: usize, t: Taps, dst: &mut [u8],
     requires { Blendable src.now dst.old t start stride o }
     ensures { Run 0 dst.old dst.new o stride (tapped src.now start t) }
 {
-    let at_a = start + t.a;
-    let at_b = start + t.b;
-    let at_c = start + t.c;
-    let at_d = start + t.d;
-    let mut k: usize = 0;
-    while k < stride {
+    let at_a = start + t.a.at;
+    let at_b = start + t.b.at;
+    let at_c = start + t.c.at;
+    let at_d = start + t.d.at;
+    for k in 0..stride {
         dst[o + k] = blend(
             src[at_a + k],
             src[at_b + k],
             src[at_c + k],
             src[at_d + k],
-            t.wa,
-            t.wb,
-            t.wc,
-            t.wd,
+            t.a.weight,
+            t.b.weight,
+            t.c.weight,
+            t.d.weight,
         );
-        k += 1;
     }
 }
 
@@ -183,11 +169,16 @@ fn blend_pixel(src: &[u8], start: usize, t: Taps, dst: &mut [u8], o: usize)
     requires { Blendable src.now dst.old t start 4 o }
     ensures { Run 0 dst.old dst.new o 4 (tapped src.now start t) }
 {
-    let p = read_pixel(src, start + t.a, 0);
-    let q = read_pixel(src, start + t.b, 0);
-    let r = read_pixel(src, start + t.c, 0);
-    let s = read_pixel(src, start + t.d, 0);
-    write_pixel(dst, o, 0, weigh_pixels(p, q, r, s, t.wa, t.wb, t.wc, t.wd));
+    let p = read_pixel(src, start + t.a.at, 0);
+    let q = read_pixel(src, start + t.b.at, 0);
+    let r = read_pixel(src, start + t.c.at, 0);
+    let s = read_pixel(src, start + t.d.at, 0);
+    write_pixel(
+        dst,
+        o,
+        0,
+        weigh_pixels(p, q, r, s, t.a.weight, t.b.weight, t.c.weight, t.d.weight),
+    );
 }
 
 // The taps of the line at start, blended into the element at o: of pixels at once, of any other elements lane by lane.
@@ -301,13 +292,11 @@ fn double_lanes(
     let q = start + (x + 1) * stride;
     let a = o + (2 * x + 1) * stride;
     let b = a + stride;
-    let mut k: usize = 0;
-    while k < stride {
+    for k in 0..stride {
         let u = src[p + k];
         let v = src[q + k];
         dst[a + k] = blend(v, u, u, v, 1, 3, 3, 1);
         dst[b + k] = blend(u, v, v, u, 1, 3, 3, 1);
-        k += 1;
     }
 }
 

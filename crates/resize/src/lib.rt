@@ -37,10 +37,8 @@ fn halve_inner(src: &[u8], start: usize, stride: usize, len: usize, dst: &mut [u
     requires { Room src.now dst.old start stride len o (inner_to Resize.Halve len) }
     ensures { PassPartInside halve src.now dst.old dst.new start stride len o 1 (inner_to Resize.Halve len) }
 {
-    let mut x: usize = 1;
-    while 2 * x + 2 < len {
+    for x in 1..1 + len.saturating_sub(3) / 2 {
         halve_inside(src, start, stride, len, dst, o, x);
-        x += 1;
     }
 }
 
@@ -49,10 +47,8 @@ fn double_inner(src: &[u8], start: usize, stride: usize, len: usize, dst: &mut [
     requires { Room src.now dst.old start stride len o (inner_to Resize.Double len) }
     ensures { PassPartInside double src.now dst.old dst.new start stride len o 1 (inner_to Resize.Double len) }
 {
-    let mut x: usize = 0;
-    while x + 1 < len {
+    for x in 0..len - 1 {
         double_inside(src, start, stride, len, dst, o, x);
-        x += 1;
     }
 }
 
@@ -92,10 +88,8 @@ fn blend_ends(
 {
     let read = len * stride;
     let made = out * stride;
-    let mut y: usize = 0;
-    while y < lines {
+    for y in 0..lines {
         blend_element(src, y * read, stride, t, dst, y * made + at);
-        y += 1;
     }
 }
 
@@ -114,10 +108,8 @@ fn inner_lines(
 {
     let read = len * stride;
     let made = out * stride;
-    let mut y: usize = 0;
-    while y < lines {
+    for y in 0..lines {
         resize_inner(src, y * read, stride, len, dst, y * made, kind);
-        y += 1;
     }
 }
 

@@ -9,15 +9,15 @@ overflow_add-dst c = omega (arith, c.before.before.before.before.before.before.b
 pub loop-k-preserved : goal.loop-k-preserved
 loop-k-preserved c =
     let l = c.loop-k.invariant in
-    (omega arith, span_more l.1 (omega arith) (omega arith) refl c.blend.ensures)
+    span_more l (omega arith) (omega arith) refl c.blend.ensures
 
 pub shape_of-dst : goal.shape_of-dst
-shape_of-dst c = c.loop-k.invariant.1.size
+shape_of-dst c = c.loop-k.invariant.size
 
 pub returns : goal.returns
 returns c =
     let e : c.loop-k.k ≡ c.args.stride = omega arith in
-    rw e at c.loop-k.invariant.1
+    rw e at c.loop-k.invariant
 
 pub loop-k-init : goal.loop-k-init
-loop-k-init c = (omega arith, span_none (omega arith))
+loop-k-init c = span_none (omega arith)

@@ -40,4 +40,4 @@ returns c =
     let here : a.o + 0 ≡ a.o = omega arith in
     span_same (rw here at c.write_pixel.ensures)
     (λ k _ l.
-    bytes_made (weighed t.wa t.wb t.wc t.wd) (from t.a) (from t.b) (from t.c) (from t.d) (c.read_pixel-p.ensures ∙ first t.a) (c.read_pixel-q.ensures ∙ first t.b) (c.read_pixel-r.ensures ∙ first t.c) (c.read_pixel-s.ensures ∙ first t.d) c.weigh_pixels.ensures k l)
+    bytes_made (weighed t.a.weight t.b.weight t.c.weight t.d.weight) (from t.a.at) (from t.b.at) (from t.c.at) (from t.d.at) (c.read_pixel-p.ensures ∙ first t.a.at) (c.read_pixel-q.ensures ∙ first t.b.at) (c.read_pixel-r.ensures ∙ first t.c.at) (c.read_pixel-s.ensures ∙ first t.d.at) c.weigh_pixels.ensures k l)

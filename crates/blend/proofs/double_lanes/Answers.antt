@@ -32,20 +32,20 @@ room st =
 pub bounds-dst-a : goal.bounds-dst-a
 bounds-dst-a c =
     let g = c.before.before.before.before.before in
-    omega (arith, room g.before.before.before, pair_size c.loop-k.invariant.1)
+    omega (arith, room g.before.before.before, pair_size c.loop-k.invariant)
 
 pub bounds-dst-b : goal.bounds-dst-b
 bounds-dst-b c =
     let g = c.before.before.before.before.before.before in
     let st = g.before.before.before in
     let a = c.args in
-    omega (arith, room st, pair_size c.loop-k.invariant.1, length-set c.loop-k.dst (a.o + (2 * a.x + 1) * a.stride + c.loop-k.k) c.blend.result)
+    omega (arith, room st, pair_size c.loop-k.invariant, length-set c.loop-k.dst (a.o + (2 * a.x + 1) * a.stride + c.loop-k.k) c.blend.result)
 
 pub loop-k-preserved : goal.loop-k-preserved
 loop-k-preserved c =
     let g = c.before.before.before.before.before.before in
     let l = c.loop-k.invariant in
-    (omega arith, pair_more l.1 (omega arith) (omega (arith, room g.before.before.before, pair_size l.1)) (omega (arith, c.blend.ensures)) (omega (arith, c.blend-in-loop-k.ensures)))
+    pair_more l (omega arith) (omega (arith, room g.before.before.before, pair_size l)) (omega (arith, c.blend.ensures)) (omega (arith, c.blend-in-loop-k.ensures))
 
 pub returns : goal.returns
 returns c =
@@ -53,7 +53,7 @@ returns c =
     let x = a.x in
     let src = a.src.now in
     let all : c.loop-k.k ≡ a.stride = omega arith in
-    let both = rw all at c.loop-k.invariant.1 in
+    let both = rw all at c.loop-k.invariant in
     let two : 2 * x + 1 + 1 ≡ 2 * x + 2 = omega arith in
     let three : 2 * x + 2 + 1 ≡ 2 * x + 3 = omega arith in
     λ mode.
@@ -96,7 +96,7 @@ pub overflow_add-b : goal.overflow_add-b
 overflow_add-b c = omega (arith, room c.before.before.before)
 
 pub loop-k-init : goal.loop-k-init
-loop-k-init c = (omega arith, pair_none)
+loop-k-init c = pair_none
 
 pub overflow_add-u : goal.overflow_add-u
 overflow_add-u c = omega (arith, room c.before.before.before.before.before)
@@ -117,4 +117,4 @@ pub overflow_add-dst-in-loop-k : goal.overflow_add-dst-in-loop-k
 overflow_add-dst-in-loop-k c = omega (arith, room c.before.before.before.before.before.before.before.before.before)
 
 pub shape_of-dst : goal.shape_of-dst
-shape_of-dst c = pair_size c.loop-k.invariant.1
+shape_of-dst c = pair_size c.loop-k.invariant

@@ -1,6 +1,6 @@
 -- Each turn blends a lane of the two elements, which are doubling's samples, into both outputs.
 use mathlib.Core.List.{List}
-use Prim.Native.Nat.{ℕ, ◌+◌, ◌-◌, ◌≤◌}
+use Prim.Native.Nat.{ℕ, ◌+◌}
 use Rattle.passes.specs.Written.{lane}
 use Rattle.blend.specs.Blend.{mix}
 use Rattle.blend.proofs.Pairs.{Pair}
@@ -14,7 +14,4 @@ abbrev pub even : List ℕ → ℕ → ℕ → ℕ → ℕ → ℕ
 even src start stride x k = let line = lane src start stride k in mix (line x) (line (x + 1)) (line (x + 1)) (line x)
 
 abbrev pub invariant-loop-k : goal.invariant-loop-k
-invariant-loop-k l = (l.k ≤ l.stride) × Pair l.initial.dst l.dst l.a l.b l.k (odd l.src l.start l.stride l.x) (even l.src l.start l.stride l.x)
-
-abbrev pub decreases-loop-k : goal.decreases-loop-k
-decreases-loop-k l = l.stride - l.k
+invariant-loop-k l = Pair l.initial.dst l.dst l.a l.b l.k (odd l.src l.start l.stride l.x) (even l.src l.start l.stride l.x)

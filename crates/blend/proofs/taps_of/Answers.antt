@@ -3,4 +3,4 @@ use Rattle.blend.proofs.taps_of.Goals as goal
 
 pub returns : goal.returns
 returns c =
-    rw (c.tap_of-ta.ensures, c.tap_of-tb.ensures, c.tap_of-tc.ensures, c.tap_of-td.ensures)
+    rw (c.tap_of.ensures, c.tap_of-2.ensures, c.tap_of-3.ensures, c.tap_of-4.ensures)

@@ -7,7 +7,4 @@ use Rattle.blend.specs.Parts.{PassPartInside}
 use Rattle.resize.proofs.double_inner.Given as goal
 
 abbrev pub invariant-loop-x : goal.invariant-loop-x
-invariant-loop-x l = (l.x + 1 ≤ l.len) × (length l.dst ≡ length l.initial.dst) × PassPartInside double l.src l.initial.dst l.dst l.start l.stride l.len l.o 1 (2 * l.x + 1)
-
-abbrev pub decreases-loop-x : goal.decreases-loop-x
-decreases-loop-x l = l.len - l.x
+invariant-loop-x l = (length l.dst ≡ length l.initial.dst) × PassPartInside double l.src l.initial.dst l.dst l.start l.stride l.len l.o 1 (2 * l.x + 1)

@@ -9,37 +9,26 @@ use Rattle.resize.proofs.Outputs.{room_less}
 use Rattle.resize.proofs.halve_inner.Goals as goal
 
 pub loop-x-init : goal.loop-x-init
-loop-x-init c = (omega arith, omega arith, refl, λ mode. span_none (omega arith))
-
-pub overflow_mul-x : goal.overflow_mul-x
-overflow_mul-x c = omega (arith, room_is)
-
-pub overflow_add-x : goal.overflow_add-x
-overflow_add-x c = omega (arith, room_is)
+loop-x-init c = (refl, λ mode. span_none (omega arith))
 
 pub halve_inside-requires : goal.halve_inside-requires
 halve_inside-requires c =
-    (omega arith, omega arith, room_less (c.loop-x.x + 1) c.requires c.loop-x.invariant.2 (omega arith))
-
-pub overflow_add-x-in-loop-x : goal.overflow_add-x-in-loop-x
-overflow_add-x-in-loop-x c = omega (arith, room_is)
+    (omega arith, omega arith, room_less (c.loop-x.x + 1) c.requires c.loop-x.invariant.0 (omega arith))
 
 pub loop-x-preserved : goal.loop-x-preserved
 loop-x-preserved c =
     let stride = c.args.stride in
     let x = c.loop-x.x in (
       omega arith,
-      omega arith,
-      omega arith,
       λ mode.
-          span_join (omega (arith, scale 0 stride 1 x (omega arith))) (omega (arith, scale 0 stride x (x + 1) (omega arith))) (c.loop-x.invariant.3 mode) (c.halve_inside.ensures mode),
+          span_join (omega (arith, scale 0 stride 1 x (omega arith))) (omega (arith, scale 0 stride x (x + 1) (omega arith))) (c.loop-x.invariant.1 mode) (c.halve_inside.ensures mode),
     )
 
 pub shape_of-dst : goal.shape_of-dst
-shape_of-dst c = c.loop-x.invariant.2
+shape_of-dst c = c.loop-x.invariant.0
 
 pub returns : goal.returns
 returns c =
     let a = c.args in
     let e : c.loop-x.x ≡ inner_to Halve a.len = omega arith in
-    rw e at c.loop-x.invariant.3
+    rw e at c.loop-x.invariant.1

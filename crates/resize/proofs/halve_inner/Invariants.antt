@@ -9,7 +9,4 @@ use Rattle.resize.specs.Resize.{inner_to}
 use Rattle.resize.proofs.halve_inner.Given as goal
 
 abbrev pub invariant-loop-x : goal.invariant-loop-x
-invariant-loop-x l = (1 ≤ l.x) × (l.x ≤ inner_to Halve l.len) × (length l.dst ≡ length l.initial.dst) × PassPartInside halve l.src l.initial.dst l.dst l.start l.stride l.len l.o 1 l.x
-
-abbrev pub decreases-loop-x : goal.decreases-loop-x
-decreases-loop-x l = l.len - l.x
+invariant-loop-x l = (length l.dst ≡ length l.initial.dst) × PassPartInside halve l.src l.initial.dst l.dst l.start l.stride l.len l.o 1 l.x
