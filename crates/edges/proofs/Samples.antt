@@ -1,9 +1,7 @@
 -- Laws of samples: inside a sample is the line's value, and what holds of two lines holds of their samples.
-use Rattle.std.proofs.Common.{◌≡◌, ℕ, ◌+◌, ◌-◌, ◌<◌, ◌≤◌, refl, ap, ◌∙◌, arith}
+use Rattle.std.proofs.Common.{◌≡◌, ℕ, ◌+◌, ◌-◌, ◌<◌, ◌≤◌, refl, ap, ◌∙◌, arith, Option, Some}
 use Rattle.picture.specs.Planes.{Line}
 use Rattle.picture.specs.declared.EdgeMode.{EdgeMode}
-use Rattle.edges.specs.declared.At.{At}
-use Rattle.edges.specs.declared.At.TheVariants.{Inside, Outside}
 use Rattle.edges.specs.Edges.{place, value_at, sample}
 use Rattle.edges.proofs.Places.{place_near, below, found_below}
 
@@ -12,12 +10,12 @@ pub sample_near : (mode : EdgeMode) (s : ℕ) (line : Line) (c d i : ℕ) → c 
 unfolding sample
 sample_near mode s line c d i e h =
     let at : c - d ≡ i = omega arith in
-    ap (λ (p : At). value_at p line) (place_near mode s c d (omega arith) (omega arith)) ∙ ap line at
+    ap (λ (p : Option ℕ). value_at p line) (place_near mode s c d (omega arith) (omega arith)) ∙ ap line at
 
 -- what holds of 0 and of two lines at a place holds of their values there
-value_relates : (R : ℕ → ℕ → Type 0) (p q : Line) (a : At) → R 0 0 → ((i : ℕ) → a ≡ Inside i → R (p i) (q i)) → R (value_at a p) (value_at a q)
-value_relates R p q (Inside i) z h = h i refl
-value_relates R p q Outside z h = z
+value_relates : (R : ℕ → ℕ → Type 0) (p q : Line) (a : Option ℕ) → R 0 0 → ((i : ℕ) → a ≡ Some i → R (p i) (q i)) → R (value_at a p) (value_at a q)
+value_relates R p q (Some i) z h = h i refl
+value_relates R p q Option.None z h = z
 
 module _ (mode : EdgeMode) (s : ℕ) (p q : Line) (c d : ℕ) where
   -- what holds of 0 and of two lines everywhere holds of their samples

@@ -1,11 +1,9 @@
 -- The edge rules on integers and on pairs of naturals are one, and the definition of modulo is the remainder of division downward.
-use Rattle.std.proofs.Common.{◌≡◌, ℕ, zero, suc, ◌+◌, ◌-◌, ◌*◌, ◌/◌, ◌%◌, ◌<◌, Bool, true, false, cond, ltb, ℤ, pos, negsuc, ◌+ℤ◌, ◌*ℤ◌, neg_ℤ, sym, refl, ap, ◌∙◌, mod-lt, suc-mul, add-mul, div-add-mod', arith, ltb-false, ltb-true, le-ltb, lt-ltb}
+use Rattle.std.proofs.Common.{◌≡◌, ℕ, zero, suc, ◌+◌, ◌-◌, ◌*◌, ◌/◌, ◌%◌, ◌<◌, Bool, true, false, cond, ltb, ℤ, pos, negsuc, ◌+ℤ◌, ◌*ℤ◌, neg_ℤ, sym, refl, ap, ◌∙◌, mod-lt, suc-mul, add-mul, div-add-mod', arith, ltb-false, ltb-true, le-ltb, lt-ltb, Option, Some}
 use lib.IntN.{sub_ℕ}
 use lib.Signed.{shr_z}
 use Rattle.picture.specs.declared.EdgeMode.{EdgeMode}
 use Rattle.picture.specs.declared.EdgeMode.TheVariants.{Duplicate, Wrap, Mirror, None}
-use Rattle.edges.specs.declared.At.{At}
-use Rattle.edges.specs.declared.At.TheVariants.{Inside, Outside}
 use Rattle.edges.specs.Edges.{modulo, reflected, place, Below}
 use Rattle.edges.specs.Whole.{inside_else, nearer, modulo_of, place_of, plus, minus}
 use Rattle.edges.proofs.Places.{modulo_is, below}
@@ -22,8 +20,8 @@ module _ (c d n : ℕ) where
 abbrev signed : ℕ → ℕ → Bool → ℤ
 signed c d t = cond t (negsuc (d - suc c)) (pos (c - d))
 
-inside_signed : (other : ℤ → At) (s c d : ℕ) (t : Bool) →
-    cond t (other (signed c d true)) (cond (ltb (c - d) s) (Inside (c - d)) (other (signed c d false))) ≡ inside_else (other (signed c d t)) s (signed c d t)
+inside_signed : (other : ℤ → Option ℕ) (s c d : ℕ) (t : Bool) →
+    cond t (other (signed c d true)) (cond (ltb (c - d) s) (Some (c - d)) (other (signed c d false))) ≡ inside_else (other (signed c d t)) s (signed c d t)
 inside_signed other s c d true = refl
 inside_signed other s c d false = refl
 
@@ -41,10 +39,10 @@ modulo_signed n c d l false e =
 -- the rule of a pair is the rule of the integer c - d
 pub place_is : (mode : EdgeMode) (s c d : ℕ) → 0 < s → place mode s c d ≡ place_of mode s (sub_ℕ c d)
 unfolding place place_of
-place_is Duplicate s c d z = inside_signed (λ k. Inside (nearer s k)) s c d (ltb c d)
-place_is Wrap s c d z = ap Inside (modulo_signed s c d z (ltb c d) refl)
+place_is Duplicate s c d z = inside_signed (λ k. Some (nearer s k)) s c d (ltb c d)
+place_is Wrap s c d z = ap Some (modulo_signed s c d z (ltb c d) refl)
 place_is Mirror s c d z = ap (reflected s) (modulo_signed (2 * s) c d (omega arith) (ltb c d) refl)
-place_is None s c d z = inside_signed (λ _. Outside) s c d (ltb c d)
+place_is None s c d z = inside_signed (λ _. Option.None) s c d (ltb c d)
 
 pair_is : (z : ℤ) → sub_ℕ (plus z) (minus z) ≡ z
 pair_is (pos n) = from_zero n 0 n (omega arith)

@@ -4,18 +4,10 @@
 ghost use Rattle.std.specs.Prelude.{◌≡◌, ◌*◌, ◌<◌, ◌≤◌};
 ghost use Rattle.picture.specs.Sizes.{side_room};
 ghost use Rattle.picture.specs.declared.EdgeMode.TheVariants.{Duplicate, Wrap, Mirror, None};
-ghost use Rattle.edges.specs.declared.At.TheVariants.{Inside};
 ghost use Rattle.edges.specs.Edges.{modulo, reflected, place, Reads, Difference, farthest, Reach};
 ghost use Rattle.edges.specs.Whole.{place_of};
 
 use picture::EdgeMode;
-
-// An element of a line, or none.
-#[derive(Clone, Copy)]
-pub enum At {
-    Inside(usize),
-    Outside,
-}
 
 // c - d modulo n, 0 to n - 1. No product wraps.
 fn modulo(n: usize, c: usize, d: usize) -> usize
@@ -28,7 +20,7 @@ fn modulo(n: usize, c: usize, d: usize) -> usize
 // A line of s elements and its reflection, at m.
 fn reflected(s: usize, m: usize) -> usize
     requires { (m < 2 * s) × (s ≤ side_room) }
-    ensures { reflected s m ≡ Inside result }
+    ensures { reflected s m ≡ Some result }
 {
     if m < s { m } else { 2 * s - 1 - m }
 }
@@ -39,7 +31,7 @@ fn reflected(s: usize, m: usize) -> usize
 fn nearest(s: usize, c: usize, d: usize, i: usize) -> usize
     requires fact_1 { Reach s c d }
     requires fact_2 { Difference i c d }
-    ensures { place Duplicate s c d ≡ Inside result }
+    ensures { place Duplicate s c d ≡ Some result }
 {
     if i < s {
         return i;
@@ -63,7 +55,7 @@ fn wrap_near(s: usize, c: usize, d: usize) -> usize
 fn wrapped(s: usize, c: usize, d: usize, i: usize) -> usize
     requires fact_1 { Reach s c d }
     requires fact_2 { Difference i c d }
-    ensures { place Wrap s c d ≡ Inside result }
+    ensures { place Wrap s c d ≡ Some result }
 {
     if i < s {
         return i;
@@ -91,7 +83,7 @@ fn mirror_near(s: usize, c: usize, d: usize) -> usize
 fn mirrored(s: usize, c: usize, d: usize, i: usize) -> usize
     requires fact_1 { Reach s c d }
     requires fact_2 { Difference i c d }
-    ensures { place Mirror s c d ≡ Inside result }
+    ensures { place Mirror s c d ≡ Some result }
 {
     if i < s {
         return i;
@@ -103,31 +95,31 @@ fn mirrored(s: usize, c: usize, d: usize, i: usize) -> usize
     reflected(s, modulo(2 * s, c, d))
 }
 
-// What None reads.
-fn held(s: usize, c: usize, d: usize, i: usize) -> At
+// What EdgeMode::None reads.
+fn held(s: usize, c: usize, d: usize, i: usize) -> Option<usize>
     requires fact_1 { Reach s c d }
     requires fact_2 { Difference i c d }
     ensures { place None s c d ≡ result }
 {
-    if i < s { At::Inside(i) } else { At::Outside }
+    if i < s { Some(i) } else { None }
 }
 
-// The element of a line of s elements that the coordinate c - d reads. Each rule makes its own test for inside: one before them all is slower.
-pub fn extend(c: usize, d: usize, s: usize, mode: EdgeMode) -> At
+// The element of a line of s elements that the coordinate c - d reads, where there is one. Each rule makes its own test for inside: one before them all is slower.
+pub fn extend(c: usize, d: usize, s: usize, mode: EdgeMode) -> Option<usize>
     requires { Reach s c d }
     ensures { result ≡ place mode s c d }
 {
     let i = std::num::wrapping_sub_usize(c, d);
     match mode {
-        EdgeMode::Duplicate => At::Inside(nearest(s, c, d, i)),
-        EdgeMode::Wrap => At::Inside(wrapped(s, c, d, i)),
-        EdgeMode::Mirror => At::Inside(mirrored(s, c, d, i)),
+        EdgeMode::Duplicate => Some(nearest(s, c, d, i)),
+        EdgeMode::Wrap => Some(wrapped(s, c, d, i)),
+        EdgeMode::Mirror => Some(mirrored(s, c, d, i)),
         EdgeMode::None => held(s, c, d, i),
     }
 }
 
-// The element of a line of s elements that a signed coordinate reads. The pair is raised by 2^31, so that neither part is negative.
-pub fn extend_signed(c: i32, s: usize, mode: EdgeMode) -> At
+// The element of a line of s elements that a signed coordinate reads, where there is one. The pair is raised by 2^31, so that neither part is negative.
+pub fn extend_signed(c: i32, s: usize, mode: EdgeMode) -> Option<usize>
     requires { (0 < s) × (s ≤ side_room) }
     ensures { result ≡ place_of mode s c }
 {

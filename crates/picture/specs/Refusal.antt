@@ -1,7 +1,43 @@
 -- Refusals: the checks in number order, and the conditions that several entries share.
-use Rattle.std.specs.Prelude.{Bool, not, cond, ◌||◌, List, [], ◌∷◌, ℕ, ltb, eqb}
+use Rattle.std.specs.Prelude.{Bool, not, cond, ◌||◌, List, [], ◌∷◌, ℕ, ltb, eqb, Result, Ok, Err}
 use Rattle.picture.specs.Planes.{bytes_of}
 use Rattle.picture.specs.Sizes.{max_side}
+use Rattle.picture.specs.declared.checks.Refusal.{Refusal}
+use Rattle.picture.specs.declared.checks.Refusal.TheVariants.{WrongSides, WrongLength, TooShort, WrongTaps, WrongWeight, TooDeep, NotFinite, WrongColour, WrongEdge, BrokenPlate, OffGrid, NoPicture, NoRoom, WrongSum, NoPam, Exceeds, ListFull, WrongList, WrongRecipe, WrongBox, TooDeepToShare, Outside}
+
+-- the refusals by their numbers
+unfoldable pub number : Refusal → ℕ
+number WrongSides = 1
+number WrongLength = 2
+number TooShort = 3
+number WrongTaps = 4
+number WrongWeight = 5
+number TooDeep = 6
+number NotFinite = 7
+number WrongColour = 8
+number WrongEdge = 9
+number BrokenPlate = 10
+number OffGrid = 11
+number NoPicture = 12
+number NoRoom = 13
+number WrongSum = 14
+number NoPam = 15
+number Exceeds = 16
+number ListFull = 17
+number WrongList = 18
+number WrongRecipe = 19
+number WrongBox = 20
+number TooDeepToShare = 21
+number Outside = 22
+
+-- the number of an answer: its refusal's, and 0 where there is none
+unfoldable pub number_of : {A : Type 0} → Result A Refusal → ℕ
+number_of (Ok a) = 0
+number_of (Err r) = number r
+
+-- a check by itself: its refusal, or nothing
+abbrev pub refused_if : Bool → Refusal → Result Unit Refusal
+refused_if refuses r = cond refuses (Err r) (Ok tt)
 
 -- one check of an entry: its number, and whether it refuses
 pub record Check : Type 0 where

@@ -1,7 +1,6 @@
 -- Each way out is what Wrap reads: the coordinate inside, the near one, or the remainder.
-use Rattle.std.proofs.Common.{sym, ap, arith}
+use Rattle.std.proofs.Common.{sym, ap, arith, Some}
 use Rattle.picture.specs.declared.EdgeMode.TheVariants.{Wrap}
-use Rattle.edges.specs.declared.At.TheVariants.{Inside}
 use Rattle.edges.specs.Edges.{place}
 use Rattle.edges.proofs.Places.{place_inside}
 use Rattle.edges.proofs.wrapped.Goals as goal
@@ -16,4 +15,4 @@ returns-then-near-s c = c.wrap_near-near.ensures (omega arith)
 
 pub returns : goal.returns
 unfolding place
-returns c = sym (ap Inside c.modulo.ensures)
+returns c = sym (ap Some c.modulo.ensures)
