@@ -12,10 +12,8 @@ fn count_words(words: &[u32]) -> u32
     ensures { result ≡ how_many (λ k. exceeds (unpacked (get_or words.now k 0))) (length words.now) }
 {
     let mut count = 0;
-    let mut k = 0;
-    while k < words.len() {
-        count += one_exceeding(words[k]);
-        k += 1;
+    for word in words {
+        count += one_exceeding(*word);
     }
     count
 }
@@ -39,10 +37,8 @@ fn count_blocks(words: &mut [u32], picture: &[u8], n: usize) -> usize
     ensures { result ≡ how_many (exceeds_at picture.now) n }
 {
     let mut count = 0;
-    let mut i = 0;
-    while i < n {
-        count += count_block(words, picture, i) as usize;
-        i += 32;
+    for block in 0..n / 32 {
+        count += count_block(words, picture, 32 * block) as usize;
     }
     count
 }

@@ -1,20 +1,10 @@
 // Whether no pixel fails the check: one pass that only reads, many bytes at once, up to a block that has one.
-ghost use Rattle.std.specs.Prelude.{◌≡◌, ◌+◌, ◌*◌, ◌%◌, ◌≤◌, max, eqb, length};
+ghost use Rattle.std.specs.Prelude.{◌≡◌, ◌+◌, ◌*◌, ◌%◌, ◌≤◌, eqb, length};
 ghost use Rattle.pixels.specs.Channels.{exceeds_at};
 ghost use Rattle.counting.specs.Counts.{how_many};
 ghost use Rattle.counting.specs.Over.{over_at, over_first, joined};
 
 use pixels::{exceeds, pixel_at};
-
-// The greater of two bytes.
-fn greater(x: u8, y: u8) -> u8
-    ensures { result ≡ max x y }
-{
-    if x < y {
-        return y;
-    }
-    x
-}
 
 // How far the greatest of three bytes exceeds the one after them, else 0. Where no pixel begins it says nothing of one, and costs less than
 // to pass that byte over.
@@ -22,12 +12,8 @@ fn over(picture: &[u8], j: usize) -> u8
     requires { j + 4 ≤ length picture.now }
     ensures { result ≡ over_at picture.now j }
 {
-    let most = greater(picture[j], greater(picture[j + 1], picture[j + 2]));
-    let alpha = picture[j + 3];
-    if alpha < most {
-        return most - alpha;
-    }
-    0
+    let most = picture[j].max(picture[j + 1].max(picture[j + 2]));
+    most.saturating_sub(picture[j + 3])
 }
 
 // That of byte j from pixel `from` on, where a pixel begins there.
@@ -48,10 +34,8 @@ fn over_block(picture: &[u8], from: usize) -> u8
     ensures { result ≡ joined (over_first picture.now from) 128 }
 {
     let mut all = 0u8;
-    let mut j = 0;
-    while j < 128 {
-        all = all | over_first(picture, from, j);
-        j += 1;
+    for j in 0..128 {
+        all |= over_first(picture, from, j);
     }
     all
 }
@@ -62,12 +46,10 @@ fn none_in_blocks(picture: &[u8], n: usize) -> bool
     requires fact_2 { n % 32 ≡ 0 }
     ensures { result ≡ eqb (how_many (exceeds_at picture.now) n) 0 }
 {
-    let mut i = 0;
-    while i < n {
-        if over_block(picture, i) != 0 {
+    for block in 0..n / 32 {
+        if over_block(picture, 32 * block) != 0 {
             return false;
         }
-        i += 32;
     }
     true
 }
@@ -79,12 +61,10 @@ fn none_in_rest(picture: &[u8], from: usize, n: usize) -> bool
     requires fact_3 { how_many (exceeds_at picture.now) from ≡ 0 }
     ensures { result ≡ eqb (how_many (exceeds_at picture.now) n) 0 }
 {
-    let mut i = from;
-    while i < n {
+    for i in from..n {
         if exceeds(pixel_at(picture, i)) {
             return false;
         }
-        i += 1;
     }
     true
 }

@@ -19,12 +19,8 @@ pub fn place(word: u32) -> usize
 pub fn unpack(word: u32) -> Pixel
     ensures { result ≡ unpacked word }
 {
-    Pixel {
-        r: (word % 256) as u8,
-        g: (word / 256 % 256) as u8,
-        b: (word / 65536 % 256) as u8,
-        a: (word / 16777216 % 256) as u8,
-    }
+    let [r, g, b, a] = word.to_le_bytes();
+    Pixel { r, g, b, a }
 }
 
 // Packs the pixels from `from` on, one into each word.
@@ -32,10 +28,8 @@ pub fn pack_pixels(words: &mut [u32], picture: &[u8], from: usize)
     requires { 4 * (from + length words.old) ≤ length picture.now }
     ensures { words.new ≡ build (length words.old) (λ k. packed (pixel_at picture.now (from + k))) }
 {
-    let mut k = 0;
-    while k < words.len() {
-        words[k] = pixels::pack(pixel_at(picture, from + k));
-        k += 1;
+    for (k, word) in words.iter_mut().enumerate() {
+        *word = pixels::pack(pixel_at(picture, from + k));
     }
 }
 
@@ -44,10 +38,8 @@ pub fn unpack_pixels(bytes: &mut [u8], words: &[u32])
     requires { length bytes.old ≡ 4 * length words.now }
     ensures { bytes.new ≡ build (length bytes.old) (λ j. byte_in (get_or words.now (j / 4) 0) (j % 4)) }
 {
-    let mut k = 0;
-    while k < words.len() {
-        set_pixel(bytes, k, unpack(words[k]));
-        k += 1;
+    for (k, word) in words.iter().enumerate() {
+        set_pixel(bytes, k, unpack(*word));
     }
 }
 

@@ -13,10 +13,8 @@ fn take_halves(halves: &mut [u16], words: &[u32], by: u32)
     requires fact_2 { 0 < by }
     ensures { Run 0 halves.old halves.new 0 (length words.now) (λ k. get_or words.now k 0 / by % 65536) }
 {
-    let mut k = 0;
-    while k < halves.len() {
-        halves[k] = (words[k] / by % 65536) as u16;
-        k += 1;
+    for (k, half) in halves.iter_mut().enumerate() {
+        *half = (words[k] / by % 65536) as u16;
     }
 }
 
@@ -26,10 +24,8 @@ fn lay_bytes(dst: &mut [u8], to: usize, halves: &[u16], by: u16)
     requires fact_2 { 0 < by }
     ensures { Run 0 dst.old dst.new to (length halves.now) (λ k. get_or halves.now k 0 / by % 256) }
 {
-    let mut k = 0;
-    while k < halves.len() {
-        dst[to + k] = (halves[k] / by % 256) as u8;
-        k += 1;
+    for (k, half) in halves.iter().enumerate() {
+        dst[to + k] = (*half / by % 256) as u8;
     }
 }
 

@@ -8,18 +8,11 @@ ghost use Rattle.halves.specs.Blocks.{together};
 use counting::words::unpack;
 use pixels::set_pixel;
 
-// Two bytes as a half, the first lowest.
-fn half(low: u8, high: u8) -> u16
-    ensures { result ≡ low + high * 256 }
-{
-    low as u16 + high as u16 * 256
-}
-
 // Two halves as a word, the first lowest.
 fn word(low: u16, high: u16) -> u32
     ensures { result ≡ low + high * 65536 }
 {
-    low as u32 + high as u32 * 65536
+    u32::from(low) + u32::from(high) * 65536
 }
 
 // The bytes of two planes as halves, those from p on and those from q on.
@@ -28,10 +21,8 @@ fn pair_bytes(halves: &mut [u16], src: &[u8], p: usize, q: usize)
     requires fact_2 { q + length halves.old ≤ length src.now }
     ensures { Run 0 halves.old halves.new 0 (length halves.old) (λ k. get_or src.now (p + k) 0 + get_or src.now (q + k) 0 * 256) }
 {
-    let mut k = 0;
-    while k < halves.len() {
-        halves[k] = half(src[p + k], src[q + k]);
-        k += 1;
+    for (k, pair) in halves.iter_mut().enumerate() {
+        *pair = u16::from_le_bytes([src[p + k], src[q + k]]);
     }
 }
 
@@ -41,10 +32,8 @@ fn lay_pixels(dst: &mut [u8], m: usize, low: &[u16], high: &[u16])
     requires fact_2 { length high.now ≡ length low.now }
     ensures { Run 0 dst.old dst.new (4 * m) (4 * length low.now) (λ j. byte_in (get_or low.now (j / 4) 0 + get_or high.now (j / 4) 0 * 65536) (j % 4)) }
 {
-    let mut k = 0;
-    while k < low.len() {
+    for k in 0..low.len() {
         set_pixel(dst, m + k, unpack(word(low[k], high[k])));
-        k += 1;
     }
 }
 

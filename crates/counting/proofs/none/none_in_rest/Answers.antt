@@ -5,9 +5,6 @@ use Rattle.counting.proofs.Counted.{many_more, some_many, all_none}
 use Rattle.counting.proofs.none.none_in_rest.Goals as goal
 use Rattle.counting.proofs.none.none_in_rest.Goals.{After-exceeds}
 
-pub loop-i-init : goal.loop-i-init
-loop-i-init c = (omega arith, c.requires.fact_3)
-
 -- what the test says of the pixel
 told : (c : After-exceeds) → c.exceeds.result ≡ exceeds_at c.args.picture.now c.loop-i.i
 told c = c.exceeds.ensures ∙ ap exceeds c.pixel_at.ensures
@@ -20,8 +17,8 @@ returns-then-exceeds c =
 pub loop-i-preserved : goal.loop-i-preserved
 loop-i-preserved c =
     let test = exceeds_at c.args.picture.now in
-    (omega arith, many_more test c.loop-i.i ∙ rw (c.loop-i.invariant.1, sym (told (goal.at.loop-i-preserved c).After-exceeds) ∙ c.if-exceeds.false))
+    many_more test c.loop-i.i ∙ rw (c.loop-i.invariant, sym (told (goal.at.loop-i-preserved c).After-exceeds) ∙ c.if-exceeds.false)
 
 pub returns : goal.returns
 returns c =
-    all_none (exceeds_at c.args.picture.now) {n = c.args.n} (omega arith) c.loop-i.invariant.1
+    all_none (exceeds_at c.args.picture.now) {n = c.args.n} (omega arith) c.loop-i.invariant

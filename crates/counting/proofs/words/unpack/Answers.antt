@@ -1,6 +1,5 @@
 -- Each channel is a byte of the word.
-use mathlib.Core.Path.{refl}
 use Rattle.counting.proofs.words.unpack.Goals as goal
 
 pub returns : goal.returns
-returns c = refl
+returns c = rw c.to_le_bytes.ensures

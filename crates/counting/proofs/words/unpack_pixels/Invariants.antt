@@ -1,5 +1,4 @@
 -- The first k pixels are written, and the bytes after them are as they were.
-use Prim.Native.Nat.{◌-◌}
 use lib.ListN.{length, get_or}
 use Rattle.pixels.proofs.Painting.{Painting}
 use Rattle.counting.specs.Words.{byte_in}
@@ -7,6 +6,3 @@ use Rattle.counting.proofs.words.unpack_pixels.Given as goal
 
 abbrev pub invariant-loop-k : goal.invariant-loop-k
 invariant-loop-k l = Painting (λ i. byte_in (get_or l.words i 0)) l.initial.bytes l.bytes l.k (length l.words)
-
-abbrev pub decreases-loop-k : goal.decreases-loop-k
-decreases-loop-k l = length l.words - l.k

@@ -4,10 +4,10 @@ use Rattle.picture.proofs.Spans.{span_none, span_more, span_ends}
 use Rattle.halves.proofs.apart.take_halves.Goals as goal
 
 pub loop-k-init : goal.loop-k-init
-loop-k-init c = (omega arith, span_none (omega arith))
+loop-k-init c = span_none (omega arith)
 
 pub loop-k-preserved : goal.loop-k-preserved
-loop-k-preserved c = (omega arith, span_more c.loop-k.invariant.1 (omega arith) (omega arith) (omega arith) refl)
+loop-k-preserved c = span_more c.loop-k.invariant (omega arith) (omega arith) (omega arith) refl
 
 pub returns : goal.returns
-returns c = span_ends c.loop-k.invariant.1 refl (omega arith)
+returns c = span_ends c.loop-k.invariant refl (omega arith)
