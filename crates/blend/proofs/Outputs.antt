@@ -1,4 +1,5 @@
 -- An output of a pass is what stands at four places, blended.
+use Rattle.std.proofs.Common.{Option}
 use mathlib.Core.Path.{◌≡◌}
 use mathlib.Core.Bool.{cond}
 use Prim.Native.Nat.{ℕ, zero, suc, ◌+◌, ◌-◌, ◌*◌, ◌/◌, ◌%◌, ◌<◌}
@@ -8,7 +9,6 @@ use lib.Dec.{eqb}
 use Rattle.picture.specs.Planes.{Line}
 use Rattle.picture.specs.declared.EdgeMode.{EdgeMode}
 use Rattle.edges.specs.Edges.{place, sample}
-use Rattle.edges.specs.declared.At.{At}
 use Rattle.passes.specs.Passes.{halve, double}
 use Rattle.blend.specs.Blend.{mix, mix_at}
 use Rattle.blend.proofs.Places.{inside}
@@ -32,13 +32,13 @@ module _ (mode : EdgeMode) (s : ℕ) (line : Line) where
       by x (suc (suc r)) l = absurd (omega arith)
 
 -- of the places
-module _ (mode : EdgeMode) (s x : ℕ) (line : Line) {a b c d : At} where
+module _ (mode : EdgeMode) (s x : ℕ) (line : Line) {a b c d : Option ℕ} where
   pub halved : a ≡ place mode s (2 * x) 1 → b ≡ place mode s (2 * x) 0 → c ≡ place mode s (2 * x + 1) 0 → d ≡ place mode s (2 * x + 2) 0 →
       mix_at a b c d line ≡ halve mode s line x
   unfolding halve sample
   halved ea eb ec ed = rw (ea, eb, ec, ed)
 
-module _ (mode : EdgeMode) (s y : ℕ) (line : Line) {a b : At} where
+module _ (mode : EdgeMode) (s y : ℕ) (line : Line) {a b : Option ℕ} where
   pub doubled : a ≡ place mode s (y / 2 + y % 2) (1 - y % 2) → b ≡ place mode s (y / 2) 0 → mix_at a b b a line ≡ double mode s line y
   unfolding sample
   doubled far near = rw (far, near) (doubles mode s line y)

@@ -1,8 +1,7 @@
 -- Four values, or what stands at four places of a line, blended.
-use Rattle.std.specs.Prelude.{ℕ, ◌+◌, ◌*◌, ◌/◌}
+use Rattle.std.specs.Prelude.{ℕ, ◌+◌, ◌*◌, ◌/◌, Option}
 use Rattle.picture.specs.Planes.{Line}
 use Rattle.edges.specs.Edges.{value_at}
-use Rattle.edges.specs.declared.At.{At}
 
 -- four values in their weights, over 8, rounded
 abbrev pub weighed : ℕ → ℕ → ℕ → ℕ → ℕ → ℕ → ℕ → ℕ → ℕ
@@ -13,5 +12,5 @@ abbrev pub mix : ℕ → ℕ → ℕ → ℕ → ℕ
 mix a b c d = (a + 3 * b + 3 * c + d + 4) / 8
 
 -- the same of four places of a line
-abbrev pub mix_at : At → At → At → At → Line → ℕ
+abbrev pub mix_at : Option ℕ → Option ℕ → Option ℕ → Option ℕ → Line → ℕ
 mix_at a b c d line = mix (value_at a line) (value_at b line) (value_at c line) (value_at d line)

@@ -1,29 +1,27 @@
 -- Taps: the bytes of the four elements that an output of a line is blended of, and their weights.
-use Rattle.std.specs.Prelude.{◌≡◌, List, ℕ, ◌+◌, ◌*◌, ◌/◌, ◌≤◌, ◌<◌, ◌^◌, length, get_or}
+use Rattle.std.specs.Prelude.{◌≡◌, List, ℕ, ◌+◌, ◌*◌, ◌/◌, ◌≤◌, ◌<◌, ◌^◌, length, get_or, Option, Some, None}
 use Rattle.picture.specs.Sizes.{side_room}
-use Rattle.edges.specs.declared.At.{At}
-use Rattle.edges.specs.declared.At.TheVariants.{Inside, Outside}
 use Rattle.passes.specs.Passes.{Pass}
 use Rattle.passes.specs.Written.{lane}
 use Rattle.blend.specs.declared.Tap.{Tap}
 use Rattle.blend.specs.declared.Taps.{Taps}
 
 -- where the bytes of a place start, from the line's start on; outside, there
-abbrev pub offset_of : At → ℕ → ℕ
-offset_of (Inside i) stride = i * stride
-offset_of Outside stride = 0
+abbrev pub offset_of : Option ℕ → ℕ → ℕ
+offset_of (Some i) stride = i * stride
+offset_of None stride = 0
 
 -- the weight of a place: none outside
-abbrev pub weight_of : At → ℕ → ℕ
-weight_of (Inside i) weight = weight
-weight_of Outside weight = 0
+abbrev pub weight_of : Option ℕ → ℕ → ℕ
+weight_of (Some i) weight = weight
+weight_of None weight = 0
 
 -- the tap that reads a place in a weight
-abbrev pub tap_of : At → ℕ → ℕ → Tap
+abbrev pub tap_of : Option ℕ → ℕ → ℕ → Tap
 tap_of p stride weight = record { at = offset_of p stride; weight = weight_of p weight }
 
 -- the taps that read four places in weights 1, 3, 3, 1
-abbrev pub taps_of : At → At → At → At → ℕ → Taps
+abbrev pub taps_of : Option ℕ → Option ℕ → Option ℕ → Option ℕ → ℕ → Taps
 taps_of a b c d stride =
     record { a = tap_of a stride 1; b = tap_of b stride 3; c = tap_of c stride 3; d = tap_of d stride 1 }
 

@@ -10,7 +10,7 @@ ghost use Rattle.blend.specs.Tapped.{offset_of, tap_of, taps_of, tapped, LineRoo
 ghost use Rattle.blend.specs.Pixels.{channel_of, weighed_pixels, mix_pixels};
 ghost use Rattle.blend.specs.Parts.{Room, PassPartInside};
 
-use edges::{At, extend};
+use edges::extend;
 use picture::{EdgeMode, Pixel};
 
 // Where the bytes of a place start, from the line's start on, and the weight that they have.
@@ -30,21 +30,27 @@ pub struct Taps {
 }
 
 // The bytes of a place, in a weight. Outside they are the line's first, in weight 0, so that a loop over lanes has no branch.
-fn tap_of(p: At, stride: usize, weight: u16) -> Tap
+fn tap_of(p: Option<usize>, stride: usize, weight: u16) -> Tap
     requires { offset_of p stride < 2 ^ 64 }
     ensures { result ≡ tap_of p stride weight }
 {
     match p {
-        At::Inside(i) => Tap {
+        Some(i) => Tap {
             at: i * stride,
             weight: weight,
         },
-        At::Outside => Tap { at: 0, weight: 0 },
+        None => Tap { at: 0, weight: 0 },
     }
 }
 
 // The bytes of four places, in weights 1, 3, 3, 1.
-fn taps_of(a: At, b: At, c: At, d: At, stride: usize) -> Taps
+fn taps_of(
+    a: Option<usize>,
+    b: Option<usize>,
+    c: Option<usize>,
+    d: Option<usize>,
+    stride: usize,
+) -> Taps
     requires { (offset_of a stride < 2 ^ 64) × (offset_of b stride < 2 ^ 64) × (offset_of c stride < 2 ^ 64) × (offset_of d stride < 2 ^ 64) }
     ensures { result ≡ taps_of a b c d stride }
 {
@@ -265,13 +271,7 @@ fn halve_lanes(
     ensures { PassPartInside halve src.now dst.old dst.new start stride len o x (x + 1) }
 {
     let at = 2 * x;
-    let t = taps_of(
-        At::Inside(at - 1),
-        At::Inside(at),
-        At::Inside(at + 1),
-        At::Inside(at + 2),
-        stride,
-    );
+    let t = taps_of(Some(at - 1), Some(at), Some(at + 1), Some(at + 2), stride);
     blend_lanes(src, start, stride, t, dst, o + x * stride);
 }
 

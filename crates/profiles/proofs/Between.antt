@@ -1,4 +1,5 @@
 -- Between the least and the greatest input: samples by any rule but None are values of the line, and weighted means lie between their parts.
+use Rattle.std.proofs.Common.{Some}
 use mathlib.Core.Path.{◌≡◌, refl, ◌∙◌}
 use mathlib.Core.Bool.{Bool, true, false, cond}
 use mathlib.Core.List.{List}
@@ -13,7 +14,6 @@ use Rattle.picture.specs.declared.EdgeMode.{EdgeMode}
 use Rattle.picture.specs.declared.EdgeMode.TheVariants.{Duplicate, Wrap, Mirror, None}
 use Rattle.picture.proofs.Planes.{chan_painted, pixel_fits, remainder, quotient}
 use Rattle.picture.proofs.Spans.{le_or_lt}
-use Rattle.edges.specs.declared.At.TheVariants.{Inside}
 use Rattle.edges.specs.Edges.{modulo, place, value_at, sample}
 use Rattle.binary32.specs.Grid.{sum}
 use Rattle.binary32.specs.Taps.{sum_to}
@@ -28,7 +28,7 @@ use Rattle.profiles.proofs.Weights.{sum_is}
 
 -- what holds of all of a line holds of its samples, under any mode but None
 module _ (P : ℕ → Type 0) (line : Line) (all : (i : ℕ) → P (line i)) where
-  inside : (b t : Bool) (i j k : ℕ) → P (value_at (cond b (Inside i) (cond t (Inside j) (Inside k))) line)
+  inside : (b t : Bool) (i j k : ℕ) → P (value_at (cond b (Some i) (cond t (Some j) (Some k))) line)
   inside true t i j k = all i
   inside false true i j k = all j
   inside false false i j k = all k

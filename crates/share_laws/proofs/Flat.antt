@@ -1,4 +1,5 @@
 -- The exact blur of a flat line, and of one that is nowhere above a number.
+use Rattle.std.proofs.Common.{Some}
 use mathlib.Core.Path.{◌≡◌, refl, ap, ◌∙◌}
 use mathlib.Core.Bool.{Bool, true, false, cond}
 use mathlib.Core.List.{List}
@@ -12,7 +13,6 @@ use Rattle.picture.specs.Planes.{Line}
 use Rattle.picture.specs.Sizes.{half}
 use Rattle.picture.specs.declared.EdgeMode.{EdgeMode}
 use Rattle.picture.specs.declared.EdgeMode.TheVariants.{Duplicate, Wrap, Mirror, None}
-use Rattle.edges.specs.declared.At.TheVariants.{Inside}
 use Rattle.edges.specs.Edges.{modulo, place, value_at, sample}
 use Rattle.binary32.specs.Grid.{sum}
 use Rattle.passes.proofs.Taps.{sample_most}
@@ -29,12 +29,12 @@ scale_more n k =
 
 -- what holds of a line holds of its samples, under any mode but None
 module _ (P : ℕ → Type 0) (line : Line) (all : (i : ℕ) → P (line i)) where
-  inside : (b t : Bool) (i j k : ℕ) → P (value_at (cond b (Inside i) (cond t (Inside j) (Inside k))) line)
+  inside : (b t : Bool) (i j k : ℕ) → P (value_at (cond b (Some i) (cond t (Some j) (Some k))) line)
   inside true t i j k = all i
   inside false true i j k = all j
   inside false false i j k = all k
 
-  turned : (b : Bool) (i j : ℕ) → P (value_at (cond b (Inside i) (Inside j)) line)
+  turned : (b : Bool) (i j : ℕ) → P (value_at (cond b (Some i) (Some j)) line)
   turned true i j = all i
   turned false i j = all j
 

@@ -1,4 +1,5 @@
 -- Linearity: what is made of a weighted sum of lines or planes is the same weighted sum of what is made of each. One lift through the blur.
+use Rattle.std.proofs.Common.{Option, Some, None}
 use mathlib.Core.Path.{◌≡◌, refl, ◌∙◌, sym, ap, fun_ext}
 use mathlib.Core.Bool.{Bool, true, false, cond}
 use Prim.Native.Nat.{ℕ, zero, suc, ◌+◌, ◌*◌}
@@ -6,8 +7,6 @@ use native.Mathlib.Nat.{mul-add, mul-zero, mul_left_comm}
 use Rattle.picture.specs.Planes.{Line, Plane}
 use Rattle.picture.specs.Sizes.{half}
 use Rattle.picture.specs.declared.EdgeMode.{EdgeMode}
-use Rattle.edges.specs.declared.At.{At}
-use Rattle.edges.specs.declared.At.TheVariants.{Inside, Outside}
 use Rattle.edges.specs.Edges.{place, value_at, sample}
 use Rattle.binary32.specs.Taps.{sum_to}
 use Rattle.passes.specs.Passes.{Pass}
@@ -65,9 +64,9 @@ pub sample_linear : (mode : EdgeMode) (s c d : ℕ) → Lin (λ l. sample mode s
 unfolding sample
 sample_linear mode s c d = at (place mode s c d)
   where
-    at : (a : At) → Lin (value_at a)
-    at (Inside i) = record { law = λ m k P. refl }
-    at Outside = lin_none
+    at : (a : Option ℕ) → Lin (value_at a)
+    at (Some i) = record { law = λ m k P. refl }
+    at None = lin_none
 
 -- one number made of planes that are made of planes
 module _ (F : Plane → ℕ) (G : Plane → Plane) (f : PlaneLin F) (g : (x y : ℕ) → PlaneLin (λ p. G p x y)) where

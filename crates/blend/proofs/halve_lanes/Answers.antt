@@ -1,10 +1,10 @@
 -- The four elements blended are halving's samples.
+use Rattle.std.proofs.Common.{Some}
 use mathlib.Core.Path.{◌∙◌}
 use Prim.Native.Nat.{◌+◌, ◌-◌, ◌*◌, ◌≤◌}
 use native.Mathlib.Omega.{arith}
 use lib.ListN.{length}
 use Rattle.picture.proofs.Spans.{within, span_same}
-use Rattle.edges.specs.declared.At.TheVariants.{Inside}
 use Rattle.passes.specs.Passes.{halve}
 use Rattle.passes.specs.Written.{lane}
 use Rattle.passes.proofs.Written.{element_made}
@@ -28,7 +28,7 @@ blend_lanes-requires c =
     let a = c.args in
     let at = 2 * a.x in
     taps_room
-    (taps_fit (Inside (at - 1)) (Inside at) (Inside (at + 1)) (Inside (at + 2)) a.stride c.taps_of-t.ensures a.len (omega arith) (omega arith) (omega arith) (omega arith) (omega arith))
+    (taps_fit (Some (at - 1)) (Some at) (Some (at + 1)) (Some (at + 2)) a.stride c.taps_of-t.ensures a.len (omega arith) (omega arith) (omega arith) (omega arith) (omega arith))
     c.requires.2.src_ends
     (room st)
 
@@ -44,7 +44,7 @@ returns c =
     element_made (halve mode) src a.start a.len a.stride a.x
     (span_same c.blend_lanes.ensures
     (λ k _ _.
-    taps_mix (Inside (at - 1)) (Inside at) (Inside (at + 1)) (Inside (at + 2)) a.stride c.taps_of-t.ensures src a.start k
+    taps_mix (Some (at - 1)) (Some at) (Some (at + 1)) (Some (at + 2)) a.stride c.taps_of-t.ensures src a.start k
     ∙ halved_inside mode a.len a.x (lane src a.start a.stride k) c.requires.0 c.requires.1))
 
 pub overflow_mul-x : goal.overflow_mul-x
