@@ -1,12 +1,11 @@
 -- Laws of the grid: on it are the values m / 65536 for a whole m from 0 to 65536, and `numerator_of` finds the m.
-use Rattle.std.proofs.Common.{◌≡◌, ℕ, ◌*◌, ◌/◌, ◌%◌, ◌<◌, ◌≤◌, Bool, true, false, cond, not, ◌&&◌, T, eqb, pos, refl, ap, ◌∙◌, le_trans, le_of_suc-le-suc, mul-le-mul_right, zero-lt-suc, div-lt_iff_lt-mul, div-add-mod', mul-div_cancel, arith, lit≤, eq-eqb, ne_eqb, eqb-true}
+use Rattle.std.proofs.Common.{◌≡◌, ℕ, ◌*◌, ◌/◌, ◌%◌, ◌<◌, ◌≤◌, Bool, true, false, cond, not, ◌&&◌, T, eqb, pos, refl, ap, ◌∙◌, le_trans, le_of_suc-le-suc, mul-le-mul_right, zero-lt-suc, div-lt_iff_lt-mul, div-add-mod', mul-div_cancel, arith, lit≤, eq-eqb, ne_eqb, eqb-true, Some, None}
 use mathlib.Core.Bool.{false≢true}
 use native.Mathlib.Nat.{mul-mod_left}
 use lib.Ieee.{Float, fin, binary32, fits, mul, lt, of_int, to_unsigned}
 use lib.Ieee.Positive.{num, den, den_pos}
 use Rattle.binary32.specs.Ranges.{outside_unit}
 use Rattle.binary32.specs.Grid.{Is, on_grid, numerator, grid_weight}
-use Rattle.binary32.specs.declared.GridWeight.TheVariants.{Numerator, Off}
 use Rattle.binary32.proofs.Values.{lt_true, lt_false, value→is, whole_value}
 use Rattle.binary32.proofs.Ranges.{in_unit, unit_in}
 use Rattle.binary32.proofs.Scaled.{scaled, Cuttable, whole_part}
@@ -53,7 +52,7 @@ times_grid x = mul binary32 x (fin false 1 (pos 16))
 abbrev pub part : Float → ℕ
 part x = num x * 65536 / den x
 
-pub outside_off : (x : Float) → outside_unit x ≡ true → Off ≡ grid_weight x
+pub outside_off : (x : Float) → outside_unit x ≡ true → None ≡ grid_weight x
 unfolding on_grid grid_weight
 outside_off x h = rw h
 
@@ -71,7 +70,7 @@ module _ (x : Float) (F : T (fits binary32 x)) (o : outside_unit x ≡ false) wh
   is_part = value→is (of_int binary32 (pos (part x))) (part x) 1 (whole_value (part x) (le_trans part_le (lit≤ tt)))
 
   -- the part is below 65536 x, so that there is a remainder: x is off the grid
-  pub part_below : lt (of_int binary32 (pos (part x))) (times_grid x) ≡ true → Off ≡ grid_weight x
+  pub part_below : lt (of_int binary32 (pos (part x))) (times_grid x) ≡ true → None ≡ grid_weight x
   unfolding on_grid grid_weight
   part_below h =
       let l = lt_true (of_int binary32 (pos (part x))) (times_grid x) (part x) 1 (num x * 65536) (den x) (zero-lt-suc 0) (den_pos x) is_part is_times_grid h in
@@ -86,23 +85,23 @@ module _ (x : Float) (F : T (fits binary32 x)) (o : outside_unit x ≡ false) wh
       let e = div-add-mod' (num x * 65536) (den x) in
       rw (o, eq-eqb (num x * 65536 % den x) 0 (omega arith))
 
-  pub part_all : lt (of_int binary32 (pos (part x))) (times_grid x) ≡ false → Numerator (part x) ≡ grid_weight x
+  pub part_all : lt (of_int binary32 (pos (part x))) (times_grid x) ≡ false → Some (part x) ≡ grid_weight x
   unfolding grid_weight
   part_all h = rw (on h, numerator_is x (on h))
 
 -- ---- what an answer of `numerator_of` says
-pub answered_on : (x : Float) (m : ℕ) → Numerator m ≡ grid_weight x → (on_grid x ≡ true) × (m ≡ numerator x)
+pub answered_on : (x : Float) (m : ℕ) → Some m ≡ grid_weight x → (on_grid x ≡ true) × (m ≡ numerator x)
 unfolding grid_weight
 answered_on x m h = go (on_grid x) h
   where
-    go : (b : Bool) → Numerator m ≡ cond b (Numerator (numerator x)) Off → (b ≡ true) × (m ≡ numerator x)
+    go : (b : Bool) → Some m ≡ cond b (Some (numerator x)) None → (b ≡ true) × (m ≡ numerator x)
     go true e = (refl, cc)
     go false e = let z : ◌≡◌ {A = ℕ} 0 1 = cc in absurd (omega arith)
 
-pub answered_off : (x : Float) → Off ≡ grid_weight x → on_grid x ≡ false
+pub answered_off : (x : Float) → None ≡ grid_weight x → on_grid x ≡ false
 unfolding grid_weight
 answered_off x h = go (on_grid x) h
   where
-    go : (b : Bool) → Off ≡ cond b (Numerator (numerator x)) Off → b ≡ false
+    go : (b : Bool) → None ≡ cond b (Some (numerator x)) None → b ≡ false
     go true e = let z : ◌≡◌ {A = ℕ} 0 1 = cc in absurd (omega arith)
     go false e = refl

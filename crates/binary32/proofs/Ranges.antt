@@ -1,25 +1,18 @@
 -- Laws of the ranges: what the code's tests say of them, and what a value in range is.
 use Rattle.std.proofs.Common.{◌≡◌, ℕ, zero, suc, ◌+◌, ◌*◌, ◌<◌, ◌≤◌, Bool, true, false, ◌||◌, T, List, [], ◌∷◌, length, get_or, drop, ℤ, sym, refl, ◌∙◌, true≢false, le_of_suc-le-suc, not-suc-le-zero, le-mul_of_pos_right, add-one, arith, drop-cons, ltb-false, le-ltb, eq-eqb}
-use mathlib.Core.Bool.{false≢true}
 use lib.Ieee.{Float, nan, inf, fin, is_nan, lt, ne, up, down}
 use lib.Ieee.Fits.{up_pos, eq→eqb}
 use lib.Ieee.Positive.{num, den}
+use Rattle.std.specs.Float.{float_is_finite}
 use Rattle.binary32.specs.Ranges.{zero32, one32, finite, outside_unit, any_of, nonneg}
 use Rattle.binary32.proofs.Values.{on_nonneg, lt_is}
 
 -- ---- finite
-pub below_top : (x : Float) → lt x (inf false) ≡ true → lt (inf true) x ≡ finite x
-unfolding lt finite
-below_top nan h = refl
-below_top (inf true) h = refl
-below_top (inf false) h = absurd (false≢true h)
-below_top (fin s m e) h = refl
-
-pub not_below_top : (x : Float) → lt x (inf false) ≡ false → false ≡ finite x
-unfolding lt finite
-not_below_top nan h = refl
-not_below_top (inf s) h = refl
-not_below_top (fin s m e) h = sym h
+pub finite_is : (x : Float) → float_is_finite x ≡ finite x
+unfolding float_is_finite finite
+finite_is nan = refl
+finite_is (inf s) = refl
+finite_is (fin s m e) = refl
 
 -- ---- from 0 to 1
 pub ne_self : (x : Float) → ne x x ≡ is_nan x

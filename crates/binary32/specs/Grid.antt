@@ -1,9 +1,7 @@
 -- The grid of weights: the multiples of 1 / 65536 from 0 to 1.
-use Rattle.std.specs.Prelude.{◌≡◌, ℕ, ◌+◌, ◌*◌, ◌/◌, ◌%◌, Bool, cond, not, ◌&&◌, ◌||◌, T, List, [], ◌∷◌, map, ◌==◌, Float}
+use Rattle.std.specs.Prelude.{◌≡◌, ℕ, ◌+◌, ◌*◌, ◌/◌, ◌%◌, Bool, cond, not, ◌&&◌, ◌||◌, T, List, [], ◌∷◌, map, ◌==◌, Option, Some, None, Float}
 use Rattle.std.specs.Float.Ieee.Positive.{num, den}
 use Rattle.binary32.specs.Ranges.{nonneg, outside_unit, any_of}
-use Rattle.binary32.specs.declared.GridWeight.{GridWeight}
-use Rattle.binary32.specs.declared.GridWeight.TheVariants.{Numerator, Off}
 
 -- x equals a / c; minus zero counts as 0
 abbrev pub Is : Float → ℕ → ℕ → Type 0
@@ -17,9 +15,9 @@ on_grid x = not (outside_unit x) && num x * 65536 % den x == 0
 unfoldable pub numerator : Float → ℕ
 numerator x = cond (on_grid x) (num x * 65536 / den x) 0
 
--- what `numerator_of` answers
-unfoldable pub grid_weight : Float → GridWeight
-grid_weight x = cond (on_grid x) (Numerator (numerator x)) Off
+-- what `numerator_of` answers: that m where x is on the grid
+unfoldable pub grid_weight : Float → Option ℕ
+grid_weight x = cond (on_grid x) (Some (numerator x)) None
 
 -- every weight is on the grid: none is off it
 unfoldable pub all_on_grid : List Float → Bool

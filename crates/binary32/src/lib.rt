@@ -16,46 +16,30 @@ pub struct Offset {
     pub minus: usize,
 }
 
-// A weight as a multiple of 1 / 65536.
-#[derive(Clone, Copy)]
-pub enum GridWeight {
-    Numerator(u32),
-    Off,
-}
-
 // Neither NaN nor infinite.
+#[tactic(auto, unfolding(crate::specs::Ranges::finite), using(crate::proofs::Ranges::finite_is))]
 pub fn is_finite(x: f32) -> bool
     ensures { result ≡ finite x }
 {
-    if x < 1.0 / 0.0 {
-        return -1.0 / 0.0 < x;
-    }
-    false
+    x.is_finite()
 }
 
 // NaN, below 0 or above 1.
+#[tactic(auto, unfolding(crate::specs::Ranges::outside_unit))]
 fn outside_unit(x: f32) -> bool
     ensures { result ≡ outside_unit x }
 {
-    if x != x {
-        return true;
-    }
-    if x < 0.0 {
-        return true;
-    }
-    1.0 < x
+    x.is_nan() || x < 0.0 || 1.0 < x
 }
 
 // Whether one of the values is.
 pub fn any_outside(xs: &[f32]) -> bool
     ensures { result ≡ any_outside xs.now }
 {
-    let mut i = 0;
-    while i < xs.len() {
-        if outside_unit(xs[i]) {
+    for x in xs {
+        if outside_unit(*x) {
             return true;
         }
-        i += 1;
     }
     false
 }
@@ -97,9 +81,9 @@ fn held_size(x: f32, bound: usize) -> usize
     if x < 4294967296.0 {
         let twice = std::num::truncating_f32_to_u64(x * 2.0);
         let size = ((twice + 1) / 2) as usize;
-        return if size < bound { size } else { bound };
+        return size.min(bound);
     }
-    if x != x { 0 } else { bound }
+    if x.is_nan() { 0 } else { bound }
 }
 
 // x to the nearest whole number, halves away from zero, at most `bound` either way; 0 for a NaN.
@@ -108,30 +92,31 @@ pub fn round_offset(x: f32, bound: usize) -> Offset
     ensures { result ≡ round_offset bound x }
 {
     if x < 0.0 {
-        return Offset {
+        Offset {
             plus: 0,
             minus: held_size(-x, bound),
-        };
-    }
-    Offset {
-        plus: held_size(x, bound),
-        minus: 0,
+        }
+    } else {
+        Offset {
+            plus: held_size(x, bound),
+            minus: 0,
+        }
     }
 }
 
 // The numerator of a weight over 65536, where that is whole. 65536 times a weight is exact.
-pub fn numerator_of(x: f32) -> GridWeight
+pub fn numerator_of(x: f32) -> Option<u32>
     ensures { result ≡ grid_weight x }
 {
     if outside_unit(x) {
-        return GridWeight::Off;
+        return None;
     }
     let scaled = x * 65536.0;
     let whole = std::num::truncating_f32_to_u64(scaled);
     if (whole as f32) < scaled {
-        return GridWeight::Off;
+        return None;
     }
-    GridWeight::Numerator(whole as u32)
+    Some(whole as u32)
 }
 
 // A weight is not on the grid, or the numerators do not sum to 65536. A sum above that stays above.
@@ -139,16 +124,14 @@ pub fn off_grid(xs: &[f32]) -> bool
     ensures { result ≡ off_grid xs.now }
 {
     let mut sum: u32 = 0;
-    let mut i = 0;
-    while i < xs.len() {
-        let GridWeight::Numerator(m) = numerator_of(xs[i]) else {
+    for x in xs {
+        let Some(m) = numerator_of(*x) else {
             return true;
         };
         sum += m;
         if 65536 < sum {
             return true;
         }
-        i += 1;
     }
     sum != 65536
 }

@@ -1,8 +1,9 @@
 -- `held_size` meets its contract: below 2 ^ 32 twice x is exact, and half of its whole part and one is x rounded; from there on the bound is less.
-use Rattle.std.proofs.Common.{◌≡◌, ◌+◌, ◌/◌, ◌≤◌, min, T, sym, ap, subst, arith}
-use lib.Ieee.{binary32, fits, of_bits}
-use lib.Ieee.Compare.{differs_from_itself}
+use Rattle.std.proofs.Common.{◌≡◌, ℕ, ◌+◌, ◌/◌, ◌≤◌, min, T, true, sym, refl, ◌∙◌, subst, arith}
+use mathlib.Core.Bool.{false≢true}
+use lib.Ieee.{Float, nan, inf, fin, binary32, fits, is_nan, of_bits}
 use Rattle.binary32.specs.Round.{held_size}
+use Rattle.binary32.proofs.Ranges.{ne_self}
 use Rattle.binary32.proofs.Offsets.{cut_asks, cut_gives, beyond}
 use Rattle.binary32.proofs.held_size.Goals as goal
 use Rattle.binary32.proofs.held_size.Goals.{Start, After-truncating_f32_to_u64-twice}
@@ -29,17 +30,21 @@ found c =
 pub overflow_add-size : goal.overflow_add-size
 overflow_add-size c = let f = found c in omega arith
 
-pub returns-then-size-bound : goal.returns-then-size-bound
-returns-then-size-bound c = let f = found c.before in omega arith
+pub returns-then-x : goal.returns-then-x
+returns-then-x c = let f = found (goal.at.returns-then-x c).After-truncating_f32_to_u64-twice in omega (arith, c.min.ensures)
 
-pub returns-else-size-bound : goal.returns-else-size-bound
-returns-else-size-bound c = let f = found c.before in omega arith
+-- the size of a NaN
+nan_size : (bound : ℕ) (x : Float) → is_nan x ≡ true → 0 ≡ held_size bound x
+unfolding held_size is_nan
+nan_size bound nan h = refl
+nan_size bound (inf s) h = absurd (false≢true h)
+nan_size bound (fin s m e) h = absurd (false≢true h)
 
-pub returns-then-x-2 : goal.returns-then-x-2
+pub returns-then-is_nan : goal.returns-then-is_nan
 unfolding held_size
-returns-then-x-2 c = ap (held_size c.args.bound) (sym (differs_from_itself c.args.x (subst T (sym c.if-x-2.true) tt)))
+returns-then-is_nan c = nan_size c.args.bound c.args.x (sym c.is_nan.ensures.value ∙ c.if-is_nan.true)
 
-pub returns-else-x-2 : goal.returns-else-x-2
+pub returns-else-is_nan : goal.returns-else-is_nan
 unfolding of_bits
-returns-else-x-2 c =
-    beyond c.args.bound c.args.x c.requires.fact_2 c.requires.fact_1 c.if-x.false c.if-x-2.false
+returns-else-is_nan c =
+    beyond c.args.bound c.args.x c.requires.fact_2 c.requires.fact_1 c.if-x.false (ne_self c.args.x ∙ sym c.is_nan.ensures.value ∙ c.if-is_nan.false)

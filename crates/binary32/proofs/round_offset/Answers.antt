@@ -14,11 +14,11 @@ unfolding of_bits
 returns-then-x c =
     ap (signed_steps true) c.held_size.ensures ∙ (backward c.args.bound c.args.x c.if-x.true).1
 
-pub held_size-requires-2 : goal.held_size-requires-2
+pub held_size-requires-else-x : goal.held_size-requires-else-x
 unfolding of_bits
-held_size-requires-2 c = record { fact_1 = c.if-x.false; fact_2 = c.requires }
+held_size-requires-else-x c = record { fact_1 = c.if-x.false; fact_2 = c.requires }
 
-pub returns : goal.returns
+pub returns-else-x : goal.returns-else-x
 unfolding of_bits
-returns c =
-    ap (signed_steps false) c.held_size-2.ensures ∙ forward c.args.bound c.args.x c.if-x.false
+returns-else-x c =
+    ap (signed_steps false) c.held_size-else-x.ensures ∙ forward c.args.bound c.args.x c.if-x.false
