@@ -42,16 +42,11 @@ pub fn pack(p: Pixel) -> u32
 }
 
 // Whether r, g or b exceeds a.
+#[tactic(auto, unfolding(crate::specs::Channels::exceeds))]
 pub fn exceeds(p: Pixel) -> bool
     ensures { result ≡ exceeds p }
 {
-    if p.a < p.r {
-        return true;
-    }
-    if p.a < p.g {
-        return true;
-    }
-    p.a < p.b
+    p.a < p.r || p.a < p.g || p.a < p.b
 }
 
 // A byte with room for a product of two.
@@ -73,11 +68,7 @@ pub fn copy_bytes(to: &mut [u8], from: &[u8])
     requires { length to.old ≡ length from.now }
     ensures { to.new ≡ from.now }
 {
-    let mut i = 0;
-    while i < to.len() {
-        to[i] = from[i];
-        i += 1;
-    }
+    to.copy_from_slice(from);
 }
 
 // Copies n bytes, from p on, into dst from q on.
@@ -86,9 +77,5 @@ pub fn copy_run(src: &[u8], p: usize, dst: &mut [u8], q: usize, n: usize)
     requires fact_2 { q + n ≤ length dst.old }
     ensures { Run 0 dst.old dst.new q n (λ k. get_or src.now (p + k) 0) }
 {
-    let mut k = 0;
-    while k < n {
-        dst[q + k] = src[p + k];
-        k += 1;
-    }
+    dst[q..q + n].copy_from_slice(&src[p..p + n]);
 }
