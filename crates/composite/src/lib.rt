@@ -1,7 +1,7 @@
 // The coloured shadow, and the original over it.
 #![tactic(auto)]
 
-ghost use Rattle.std.specs.Prelude.{◌≡◌, T, length, true, false, ◌*◌};
+ghost use Rattle.std.specs.Prelude.{◌≡◌, T, cond, length, false, ◌*◌};
 ghost use Rattle.std.specs.Float.{binary32};
 ghost use Rattle.std.specs.Float.Ieee.{mul};
 ghost use Rattle.picture.specs.Build.{build};
@@ -68,7 +68,7 @@ fn src_over_channel(src: u8, dst: u8, alpha: u8) -> u8
     ensures { result ≡ over src dst alpha }
 {
     let sum = wide(src) + (wide(dst) * (255 - wide(alpha)) + 127) / 255;
-    if sum < 255 { sum as u8 } else { 255 }
+    sum.min(255) as u8
 }
 
 // One pixel over another.
@@ -88,10 +88,8 @@ pub fn take_alphas(plane: &mut [u8], picture: &[u8])
     requires { length picture.now ≡ 4 * length plane.old }
     ensures { plane.new ≡ alphas_in (length plane.old) picture.now }
 {
-    let mut i = 0;
-    while i < plane.len() {
-        plane[i] = picture[4 * i + 3];
-        i += 1;
+    for (i, alpha) in plane.iter_mut().enumerate() {
+        *alpha = picture[4 * i + 3];
     }
 }
 
@@ -101,10 +99,8 @@ fn alpha_table(table: &mut [u8], colour: f32)
     requires fact_2 { outside_unit colour ≡ false }
     ensures { table.new ≡ build 256 (shadow_alpha colour) }
 {
-    let mut i = 0;
-    while i < 256 {
-        table[i] = shadow_alpha(colour, i as u8);
-        i += 1;
+    for (i, entry) in table.iter_mut().enumerate() {
+        *entry = shadow_alpha(colour, i as u8);
     }
 }
 
@@ -113,10 +109,8 @@ fn pass_through(plane: &mut [u8], table: &[u8])
     requires { length table.now ≡ 256 }
     ensures { plane.new ≡ through table.now plane.old }
 {
-    let mut i = 0;
-    while i < plane.len() {
-        plane[i] = table[plane[i] as usize];
-        i += 1;
+    for alpha in plane.iter_mut() {
+        *alpha = table[usize::from(*alpha)];
     }
 }
 
@@ -153,32 +147,26 @@ pub fn tinted_pixel(tint: Tint, alpha: u8) -> Pixel
     }
 }
 
-// The picture over a shadow of this tint and these alphas, pixel by pixel.
-fn lay_pixels(picture: &mut [u8], size: FullSize, alphas: &[u8], tint: Tint)
-    requires fact_1 { Pictured size.w size.h picture.old }
-    requires fact_2 { length alphas.now ≡ size.w * size.h }
-    ensures { picture.new ≡ painted size.w size.h (tint_on true tint (chan picture.old size.w) (plane_in alphas.now size.w)) }
+// A pixel over the shadow's, or the shadow's alone.
+pub fn pixel_over<const COMPOSITE: bool>(pixel: Pixel, shadow: Pixel) -> Pixel
+    ensures { result ≡ cond COMPOSITE (over_pixel pixel shadow) shadow }
 {
-    let n = size.bytes() / 4;
-    let mut i = 0;
-    while i < n {
-        let out = compose_src_over(pixel_at(picture, i), tinted_pixel(tint, alphas[i]));
-        set_pixel(picture, i, out);
-        i += 1;
+    if COMPOSITE {
+        compose_src_over(pixel, shadow)
+    } else {
+        shadow
     }
 }
 
-// The shadow alone, pixel by pixel.
-fn tint_pixels(picture: &mut [u8], size: FullSize, alphas: &[u8], tint: Tint)
+// The picture over a shadow of this tint and these alphas, or that shadow alone, pixel by pixel. Which of them is a constant of the loop.
+fn lay_pixels<const COMPOSITE: bool>(picture: &mut [u8], size: FullSize, alphas: &[u8], tint: Tint)
     requires fact_1 { Pictured size.w size.h picture.old }
     requires fact_2 { length alphas.now ≡ size.w * size.h }
-    ensures { picture.new ≡ painted size.w size.h (tint_on false tint (chan picture.old size.w) (plane_in alphas.now size.w)) }
+    ensures { picture.new ≡ painted size.w size.h (tint_on COMPOSITE tint (chan picture.old size.w) (plane_in alphas.now size.w)) }
 {
-    let n = size.bytes() / 4;
-    let mut i = 0;
-    while i < n {
-        set_pixel(picture, i, tinted_pixel(tint, alphas[i]));
-        i += 1;
+    for i in 0..size.bytes() / 4 {
+        let out = pixel_over::<COMPOSITE>(pixel_at(picture, i), tinted_pixel(tint, alphas[i]));
+        set_pixel(picture, i, out);
     }
 }
 
@@ -198,8 +186,8 @@ pub fn write_colored_shadow(
     shadow_alphas(plane, colour.alpha);
     let tint = tint_of(colour);
     if composite {
-        lay_pixels(picture, size, plane, tint);
+        lay_pixels::<true>(picture, size, plane, tint);
     } else {
-        tint_pixels(picture, size, plane, tint);
+        lay_pixels::<false>(picture, size, plane, tint);
     }
 }

@@ -11,11 +11,9 @@ use pixels::copy_bytes;
 fn common(words: &[u32]) -> u32
     ensures { (k : ℕ) → k < length words.now → result ≤ get_or words.now k 0 }
 {
-    let mut all = 4294967295u32;
-    let mut k = 0;
-    while k < words.len() {
-        all = all & words[k];
-        k += 1;
+    let mut all = u32::MAX;
+    for word in words {
+        all &= *word;
     }
     all
 }
@@ -35,17 +33,16 @@ fn copy_blocks(to: &mut [u8], from: &[u8], words: &mut [u32]) -> usize
     requires fact_2 { length words.old ≡ 32 }
     ensures { Front from.now to.old result to.new }
 {
-    let whole = to.len() / 128 * 128;
-    let mut at = 0;
-    while at < whole {
+    let blocks = to.len() / 128;
+    for block in 0..blocks {
+        let at = 128 * block;
         let end = at + 128;
         if mixed(&from[at..end], words) {
             return at;
         }
         copy_bytes(&mut to[at..end], &from[at..end]);
-        at = end;
     }
-    at
+    128 * blocks
 }
 
 // Copies them, and says how many bytes they are.

@@ -30,8 +30,5 @@ overflow_add-sum c = let k = known c in search rules
 pub overflow_add-sum-2 : goal.overflow_add-sum-2
 overflow_add-sum-2 c = let k = known c in omega arith
 
-pub returns-then-sum-lt255 : goal.returns-then-sum-lt255
-returns-then-sum-lt255 c = let k = known c.before in omega arith
-
-pub returns-else-sum-lt255 : goal.returns-else-sum-lt255
-returns-else-sum-lt255 c = let k = known c.before in omega arith
+pub returns : goal.returns
+returns c = let k = known c.before in omega arith

@@ -13,4 +13,4 @@ returns-then-composite c =
 pub returns-else-composite : goal.returns-else-composite
 returns-else-composite c =
     let a = c.args in
-    shadow_written a.size.w a.size.h (painted a.size.w a.size.h) (painted_same a.size.w a.size.h) (chan a.picture.now a.size.w) a.colour a.plane.now c.requires.fact_1 false c.if-composite.false c.tint_of-tint.ensures c.shadow_alphas.ensures c.tint_pixels.ensures
+    shadow_written a.size.w a.size.h (painted a.size.w a.size.h) (painted_same a.size.w a.size.h) (chan a.picture.now a.size.w) a.colour a.plane.now c.requires.fact_1 false c.if-composite.false c.tint_of-tint.ensures c.shadow_alphas.ensures c.lay_pixels-else-composite.ensures
