@@ -4,7 +4,7 @@
 ghost use Rattle.std.specs.Prelude.{◌≡◌, length};
 ghost use Rattle.picture.specs.Planes.{bytes_of, cleared};
 ghost use Rattle.picture.specs.Sizes.{Sized, FullSized};
-ghost use Rattle.picture.specs.Refusal.{first_else, first_of};
+ghost use Rattle.picture.specs.Refusal.{number_of, first_of};
 ghost use Rattle.picture.specs.Answer.{answered, lent};
 ghost use Rattle.passes.specs.Forms.{form_bytes, Formed};
 ghost use Rattle.passes.specs.Kernel.{Kernel};
@@ -13,7 +13,7 @@ ghost use Rattle.gaussian_blur.specs.Needs.{BlurReady, BlurAccepted};
 ghost use Rattle.gaussian_blur.specs.Outcome.{kernel_checks, blur_checks, blurred_or_kept, form_or_kept, blur_outcome};
 
 use passes::Form;
-use picture::{EdgeMode, FullSize, LevelSize};
+use picture::{EdgeMode, FullSize, LevelSize, Refusal, refuse_if};
 
 // Halves, blurs with one decimation fewer, and doubles, in any form; with none left it convolves.
 pub fn apply_blur(
@@ -83,28 +83,30 @@ pub fn blur_or_keep(
     requires { BlurReady size.w size.h picture.old scratch.old weights.now }
     ensures { picture.new ≡ blurred_or_kept mode weights.now n strength size.w size.h picture.old }
 {
-    let pixels = Form {
-        planes: 1,
-        lanes: 4,
-    };
-    blur_form(picture, scratch, size, pixels, n, weights, mode, strength);
+    blur_form(
+        picture,
+        scratch,
+        size,
+        Form::PIXELS,
+        n,
+        weights,
+        mode,
+        strength,
+    );
 }
 
-// Checks 4 and 5, of a kernel, in front of what the later ones answer.
-pub fn kernel_refusal(weights: &[f32], later: u32) -> u32
-    ensures { result ≡ first_else (kernel_checks weights.now) later }
+// Checks 4 and 5, of a kernel.
+#[tactic(auto, unfolding(picture::specs::Refusal::number_of, picture::specs::Refusal::number, picture::specs::Refusal::first_of, picture::specs::Refusal::first_else))]
+pub fn check_kernel(weights: &[f32]) -> Result<(), Refusal>
+    ensures { number_of result ≡ first_of (kernel_checks weights.now) }
 {
-    let too_many = picture::wrong_taps(weights.len());
-    let outside = binary32::any_outside(weights);
-    picture::first(
-        picture::WRONG_TAPS,
-        too_many,
-        picture::first(picture::WRONG_WEIGHT, outside, later),
-    )
+    refuse_if(picture::wrong_taps(weights.len()), Refusal::WrongTaps)?;
+    refuse_if(binary32::any_outside(weights), Refusal::WrongWeight)
 }
 
-// The first of refusals 1 to 7 and 9 that fits, 0 where none does; of the buffers' lengths.
-pub fn blur_refusal(
+// The first of refusals 1 to 7 and 9 that fits; of the buffers' lengths.
+#[tactic(auto, unfolding(picture::specs::Refusal::number_of, picture::specs::Refusal::number, picture::specs::Refusal::first_of, picture::specs::Refusal::first_else))]
+pub fn check_blur(
     picture: usize,
     w: u32,
     h: u32,
@@ -113,32 +115,15 @@ pub fn blur_refusal(
     n: u32,
     strength: f32,
     edge: u32,
-) -> u32
-    ensures { result ≡ first_of (blur_checks picture w h scratch weights.now n strength edge) }
+) -> Result<(), Refusal>
+    ensures { number_of result ≡ first_of (blur_checks picture w h scratch weights.now n strength edge) }
 {
-    let short = picture::too_short(scratch, w, h);
-    let finite = binary32::is_finite(strength);
-    picture::picture_refusal(
-        picture,
-        w,
-        h,
-        picture::first(
-            picture::TOO_SHORT,
-            short,
-            kernel_refusal(
-                weights,
-                picture::first(
-                    picture::TOO_DEEP,
-                    picture::too_deep(n),
-                    picture::first(
-                        picture::NOT_FINITE,
-                        !finite,
-                        picture::first(picture::WRONG_EDGE, picture::wrong_edge(edge), 0),
-                    ),
-                ),
-            ),
-        ),
-    )
+    picture::check_picture(picture, w, h)?;
+    refuse_if(picture::too_short(scratch, w, h), Refusal::TooShort)?;
+    check_kernel(weights)?;
+    refuse_if(picture::too_deep(n), Refusal::TooDeep)?;
+    refuse_if(!binary32::is_finite(strength), Refusal::NotFinite)?;
+    refuse_if(picture::wrong_edge(edge), Refusal::WrongEdge)
 }
 
 // An accepted call: the picture blurred or kept, and the scratch zero where it was used.
@@ -169,10 +154,10 @@ pub fn blur(
     n: u32,
     strength: f32,
     edge: u32,
-) -> u32
-    ensures { answered result (lent picture.new scratch.new) ≡ blur_outcome picture.old w h scratch.old weights.now n strength edge }
+) -> Result<(), Refusal>
+    ensures { answered (number_of result) (lent picture.new scratch.new) ≡ blur_outcome picture.old w h scratch.old weights.now n strength edge }
 {
-    let r = blur_refusal(
+    check_blur(
         picture.len(),
         w,
         h,
@@ -181,12 +166,9 @@ pub fn blur(
         n,
         strength,
         edge,
-    );
-    if r != 0 {
-        return r;
-    }
+    )?;
     let size = picture::full_size(w, h);
     let mode = picture::edge_mode(edge);
     blur_accepted(picture, scratch, size, n, weights, mode, strength);
-    0
+    Ok(())
 }

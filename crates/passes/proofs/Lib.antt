@@ -8,3 +8,4 @@ pub mod Relates
 pub mod Forms
 pub mod Lines
 pub mod Lent
+pub mod Refused

@@ -15,6 +15,24 @@ pub struct Form {
     pub lanes: usize,
 }
 
+impl Form {
+    // A picture of pixels, its four planes, and one plane.
+    pub const PIXELS: Form = Form {
+        planes: 1,
+        lanes: 4,
+    };
+
+    pub const PLANES: Form = Form {
+        planes: 4,
+        lanes: 1,
+    };
+
+    pub const PLANE: Form = Form {
+        planes: 1,
+        lanes: 1,
+    };
+}
+
 // How many bytes a level has in a form.
 pub fn form_bytes(form: Form, s: LevelSize) -> usize
     requires fact_1 { Formed form }
