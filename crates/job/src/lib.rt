@@ -20,10 +20,8 @@ fn blur_bodies(plate: &mut [u8], scratch: &mut [u8])
 {
     let n = plate_numbers::count(plate);
     let mut start = plate_format::table_end(plate);
-    let mut i = 0;
-    while i < n {
+    for i in 0..n {
         start = body_blur::blur_body(plate, i, start, scratch);
-        i += 1;
     }
 }
 

@@ -10,11 +10,9 @@ pub(crate) fn longest_body(plate: &[u8]) -> usize
 {
     let n = plate_numbers::count(plate);
     let mut longest = 0;
-    let mut i = 0;
-    while i < n {
+    for i in 0..n {
         let e = plate_format::read_entry(plate, i);
-        longest = picture::greatest(longest, e.length as usize);
-        i += 1;
+        longest = longest.max(e.length as usize);
     }
     longest
 }

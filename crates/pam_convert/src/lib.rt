@@ -3,4 +3,5 @@
 
 mod blocks;
 pub mod bodies;
+mod ways;
 mod words;

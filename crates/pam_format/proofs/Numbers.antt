@@ -8,10 +8,10 @@ use native.Mathlib.Omega.{arith}
 use lib.Dec.{ltb}
 use lib.ListN.{length, drop, get_or, drop_of_length-le}
 use lib.Seq.{drop-cons}
-use borrow.Author.Tests.{le-leb, lt-leb, lt-ltb, le-ltb, ltb-true}
+use borrow.Author.Tests.{le-leb, lt-ltb, le-ltb, ltb-true}
 use Rattle.picture.specs.Build.{build}
 use Rattle.pam_format.specs.Header.{digit_count, digit, decimal}
-use Rattle.pam_format.specs.Format.{number_on}
+use Rattle.pam_format.specs.Format.{is_digit, number_on}
 
 -- the byte at i of a file, after the digits that made v
 module _ (file : List ℕ) (i v : ℕ) where
@@ -22,22 +22,18 @@ module _ (file : List ℕ) (i v : ℕ) where
 
   module _ (l : i < length file) where
     -- it is no digit, or five are there
-    pub below : get_or file i 0 < 48 → number_on (drop i file) v ≡ v
+    pub stops : is_digit (get_or file i 0) ≡ false → number_on (drop i file) v ≡ v
     unfolding number_on
-    below p = rw (drop-cons file i 0 l, lt-leb 48 (get_or file i 0) p)
+    stops e = rw (drop-cons file i 0 l, e)
 
-    pub above : 57 < get_or file i 0 → number_on (drop i file) v ≡ v
+    pub full : is_digit (get_or file i 0) ≡ true → 9999 < v → number_on (drop i file) v ≡ v
     unfolding number_on
-    above p = rw (drop-cons file i 0 l, le-leb 48 (get_or file i 0) (omega arith), lt-leb (get_or file i 0) 57 p)
-
-    pub full : 48 ≤ get_or file i 0 → get_or file i 0 ≤ 57 → 9999 < v → number_on (drop i file) v ≡ v
-    unfolding number_on
-    full p q f = rw (drop-cons file i 0 l, le-leb 48 (get_or file i 0) p, le-leb (get_or file i 0) 57 q, le-ltb v 10000 f)
+    full e f = rw (drop-cons file i 0 l, e, le-ltb v 10000 f)
 
     -- it is one more digit
-    pub goes : 48 ≤ get_or file i 0 → get_or file i 0 ≤ 57 → v ≤ 9999 → number_on (drop i file) v ≡ number_on (drop (i + 1) file) (10 * v + (get_or file i 0 - 48))
+    pub goes : is_digit (get_or file i 0) ≡ true → v ≤ 9999 → number_on (drop i file) v ≡ number_on (drop (i + 1) file) (10 * v + (get_or file i 0 - 48))
     unfolding number_on
-    goes p q f = rw (drop-cons file i 0 l, le-leb 48 (get_or file i 0) p, le-leb (get_or file i 0) 57 q, lt-ltb v 10000 (omega arith), add-one)
+    goes e f = rw (drop-cons file i 0 l, e, lt-ltb v 10000 (omega arith), add-one)
 
 -- a digit in front, and a line's end
 taken : (x v : ℕ) (rest : List ℕ) → x < 10 → v < 10000 → number_on ((48 + x) ∷ rest) v ≡ number_on rest (10 * v + x)

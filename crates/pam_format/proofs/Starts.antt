@@ -1,31 +1,20 @@
 -- Laws of bytes that begin with others: byte by byte, and as a whole.
-use mathlib.Core.Path.{◌≡◌, refl, sym, ap₂}
+use mathlib.Core.Path.{◌≡◌, refl, sym, ap, ap₂}
 use mathlib.Core.Bool.{Bool, true, false, ◌&&◌, true≢false}
 use mathlib.Core.List.{List, [], ◌∷◌, ◌++◌}
-use Prim.Native.Nat.{ℕ, ◌+◌, ◌≤◌, ◌<◌}
-use native.Mathlib.Numerals.{add-one}
+use Prim.Native.Nat.{ℕ}
 use lib.Dec.{eqb}
-use lib.ListN.{length, drop, get_or, drop_of_length-le}
-use lib.Seq.{drop-cons}
-use borrow.Author.Tests.{eqb-true, eq-eqb, ne_eqb}
+use lib.ListN.{length, drop}
+use borrow.Author.Tests.{eqb-true, eq-eqb}
+use Rattle.std.specs.List.{starts_with}
 use Rattle.pam_format.specs.Format.{begins_with}
 
-module _ (head file : List ℕ) (i : ℕ) where
-  -- all of the head is compared
-  pub all_same : length head ≤ i → begins_with (drop i head) (drop i file) ≡ true
-  unfolding begins_with
-  all_same l = rw (drop_of_length-le head l)
-
-  module _ (a : i < length head) (b : i < length file) where
-    -- two bytes that differ
-    pub differs : (get_or head i 0 ≡ get_or file i 0 → ⊥) → begins_with (drop i head) (drop i file) ≡ false
-    unfolding begins_with
-    differs n = rw (drop-cons head i 0 a, drop-cons file i 0 b, ne_eqb (get_or head i 0) (get_or file i 0) n)
-
-    -- two that are the same
-    pub same : get_or head i 0 ≡ get_or file i 0 → begins_with (drop i head) (drop i file) ≡ begins_with (drop (i + 1) head) (drop (i + 1) file)
-    unfolding begins_with
-    same e = rw (drop-cons head i 0 a, drop-cons file i 0 b, eq-eqb (get_or head i 0) (get_or file i 0) e, add-one)
+-- the library's test of a slice is this one
+pub begins_is : (head file : List ℕ) → starts_with eqb file head ≡ begins_with head file
+unfolding begins_with
+begins_is [] file = refl
+begins_is (b ∷ bs) [] = refl
+begins_is (b ∷ bs) (c ∷ cs) = ap (λ (r : Bool). eqb b c && r) (begins_is bs cs)
 
 -- two tests that both hold
 pub both : (a b : Bool) → (a && b) ≡ true → (a ≡ true) × (b ≡ true)

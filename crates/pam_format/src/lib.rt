@@ -26,26 +26,12 @@ fn digits(n: u32) -> usize
     if n < 10000 { 4 } else { 5 }
 }
 
-// 10 to the power k.
-fn power(k: usize) -> u32
-    requires { k ≤ 4 }
-    ensures { result ≡ 10 ^ k }
-{
-    match k {
-        0 => 1,
-        1 => 10,
-        2 => 100,
-        3 => 1000,
-        _ => 10000,
-    }
-}
-
 // The digit of a number at 10 to the power k, as its character.
 fn digit(n: u32, k: usize) -> u8
     requires { k ≤ 4 }
     ensures { result ≡ digit n k }
 {
-    48 + (n / power(k) % 10) as u8
+    b'0' + (n / 10u32.pow(k as u32) % 10) as u8
 }
 
 // Writes a number in decimal, the highest digit first.
@@ -53,10 +39,9 @@ fn write_decimal(out: &mut [u8], n: u32)
     requires { length out.old ≡ digit_count n }
     ensures { out.new ≡ decimal n }
 {
-    let mut i = 0;
-    while i < out.len() {
-        out[i] = digit(n, out.len() - (i + 1));
-        i += 1;
+    let length = out.len();
+    for i in 0..length {
+        out[i] = digit(n, length - (i + 1));
     }
 }
 
@@ -116,20 +101,15 @@ fn number_at(file: &[u8], at: usize) -> u32
     ensures { result ≡ side_at file.now at }
 {
     let mut value = 0;
-    let mut i = at;
-    while i < file.len() {
+    for i in at..file.len() {
         let byte = file[i];
-        if byte < 48 {
-            return value;
-        }
-        if 57 < byte {
+        if !byte.is_ascii_digit() {
             return value;
         }
         if 9999 < value {
             return value;
         }
-        value = 10 * value + (byte - 48) as u32;
-        i += 1;
+        value = 10 * value + u32::from(byte - b'0');
     }
     value
 }
@@ -153,14 +133,7 @@ fn starts_with(file: &[u8], head: &[u8]) -> bool
     requires { length head.now ≤ length file.now }
     ensures { result ≡ begins_with head.now file.now }
 {
-    let mut i = 0;
-    while i < head.len() {
-        if head[i] != file[i] {
-            return false;
-        }
-        i += 1;
-    }
-    true
+    file.starts_with(head)
 }
 
 // Whether a file begins with the header of these sides.

@@ -94,14 +94,12 @@ fn filled(file: &[u8]) -> bool
     let v = plate_numbers::version(file);
     let n = plate_numbers::count(file);
     let mut start = table_end(file);
-    let mut i = 0;
-    while i < n {
+    for i in 0..n {
         let e = read_entry(file, i);
         if !obeys(v, start, e) {
             return false;
         }
         start += e.length as usize;
-        i += 1;
     }
     file.len() == start
 }

@@ -12,7 +12,7 @@ pub fn u16_at(file: &[u8], at: usize) -> u16
     requires { at + 1 < length file.now }
     ensures { result ≡ u16_at file.now at }
 {
-    file[at] as u16 + 256 * file[at + 1] as u16
+    u16::from_le_bytes([file[at], file[at + 1]])
 }
 
 // A number of four bytes, little-endian.
@@ -20,7 +20,7 @@ pub fn u32_at(file: &[u8], at: usize) -> u32
     requires { at + 3 < length file.now }
     ensures { result ≡ u32_at file.now at }
 {
-    u16_at(file, at) as u32 + 65536 * u16_at(file, at + 2) as u32
+    u32::from_le_bytes([file[at], file[at + 1], file[at + 2], file[at + 3]])
 }
 
 // Which version the plate says it is of.

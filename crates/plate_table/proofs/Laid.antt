@@ -6,7 +6,7 @@ use Prim.Native.Nat.{ℕ, ◌+◌, ◌-◌, ◌<◌, ◌≤◌}
 use native.Mathlib.Nat.{add-sub_cancel_left}
 use native.Mathlib.Omega.{arith}
 use lib.ListN.{length, get_or, take, drop, length-append, length-drop, take-append-drop}
-use lib.Seq.{ext_get_or, sets, sets-eq, length-take-le, take-take, drop-drop, take-append-le, take_at, drop_at, get_or-take, get_or-append-add, get_or-drop}
+use lib.Seq.{ext_get_or, length-take-le, take-take, drop-drop, take-append-le, take_at, drop_at, get_or-take, get_or-append-add, get_or-drop}
 use Rattle.picture.specs.Planes.{laid}
 use Rattle.picture.specs.Buffers.{line_from, placed_at, copied}
 use Rattle.picture.proofs.Placed.{placed_before, placed_inside, placed_past, placed_at_lem, length_placed}
@@ -148,7 +148,3 @@ laid_copied n from to bytes f t =
 -- as a part that is lent by itself and comes back
 pub laid_part : (a : ℕ) (new old : List ℕ) → take a old ++ (new ++ drop (a + length new - a) (drop a old)) ≡ laid_at a new old
 laid_part a new old = rw (add-sub_cancel_left a (length new)) (sym (laid_is a new old))
-
--- stored value after value
-pub laid_stored : (new old : List ℕ) (a : ℕ) → a + length new ≤ length old → sets old a new ≡ laid_at a new old
-laid_stored new old a fits = sets-eq new old a fits ∙ sym (laid_cut a new old)

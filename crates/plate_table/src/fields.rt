@@ -12,8 +12,7 @@ fn put_u16(bytes: &mut [u8], at: usize, x: u16)
     requires { at + 2 ≤ length bytes.old }
     ensures { bytes.new ≡ laid_at at (bytes16 x) bytes.old }
 {
-    bytes[at] = (x % 256) as u8;
-    bytes[at + 1] = (x / 256) as u8;
+    bytes[at..at + 2].copy_from_slice(&x.to_le_bytes());
 }
 
 // A number in four bytes, little-endian.
@@ -21,8 +20,7 @@ fn put_u32(bytes: &mut [u8], at: usize, x: u32)
     requires { at + 4 ≤ length bytes.old }
     ensures { bytes.new ≡ laid_at at (bytes32 x) bytes.old }
 {
-    put_u16(bytes, at, (x % 65536) as u16);
-    put_u16(bytes, at + 2, (x / 65536) as u16);
+    bytes[at..at + 4].copy_from_slice(&x.to_le_bytes());
 }
 
 // The version and the count, in the first four bytes.

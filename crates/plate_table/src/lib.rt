@@ -24,12 +24,8 @@ fn shift_entry(bytes: &mut [u8], i: usize)
     let e = plate_format::read_entry(bytes, i);
     let at = plate_format::entry_at(bytes, i);
     let further = Entry {
-        width: e.width,
-        height: e.height,
         offset: e.offset + plate_numbers::entry_size(v) as u32,
-        length: e.length,
-        unit: e.unit,
-        sheet: e.sheet,
+        ..e
     };
     put_entry(bytes, at, v, further);
 }
@@ -40,10 +36,8 @@ fn shift_entries(bytes: &mut [u8])
     ensures { bytes.new ≡ laid_at 4 (table_of (version bytes.old) (λ i. further (entry_size (version bytes.old)) (entry_of bytes.old i)) (count bytes.old)) bytes.old }
 {
     let n = plate_numbers::count(bytes);
-    let mut i = 0;
-    while i < n {
+    for i in 0..n {
         shift_entry(bytes, i);
-        i += 1;
     }
 }
 

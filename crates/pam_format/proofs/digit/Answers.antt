@@ -5,8 +5,8 @@ use Rattle.pam_format.specs.Header.{digit}
 use Rattle.pam_format.proofs.digit.Goals as goal
 
 pub nonzero_div-result : goal.nonzero_div-result
-nonzero_div-result c = omega (arith, c.power.ensures, one-le-pow c.args.k 10 (omega arith))
+nonzero_div-result c = omega (arith, c.pow.ensures, one-le-pow c.args.k 10 (omega arith))
 
 pub returns : goal.returns
 unfolding digit
-returns c = rw c.power.ensures
+returns c = rw c.pow.ensures

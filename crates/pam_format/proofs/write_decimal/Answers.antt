@@ -14,7 +14,7 @@ digit-requires c = omega (arith, digits_most c.args.n)
 pub loop-i-preserved : goal.loop-i-preserved
 loop-i-preserved c =
     let a = c.args in
-    let place : length c.loop-i.out - (c.loop-i.i + 1) ≡ digit_count a.n - suc c.loop-i.i = omega (arith, c.requires) in
+    let place : length c.args.out.now - (c.loop-i.i + 1) ≡ digit_count a.n - suc c.loop-i.i = omega (arith, c.requires) in
     fills_more c.loop-i.invariant (omega arith) (c.digit.ensures ∙ ap (digit a.n) place)
 
 pub returns : goal.returns

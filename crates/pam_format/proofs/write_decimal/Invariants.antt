@@ -1,12 +1,8 @@
 -- The first i digits are written, and the other bytes are as they were.
 use Prim.Native.Nat.{suc, ◌-◌}
-use lib.ListN.{length}
 use Rattle.picture.proofs.Filled.{Filling}
 use Rattle.pam_format.specs.Header.{digit_count, digit}
 use Rattle.pam_format.proofs.write_decimal.Given as goal
 
 abbrev pub invariant-loop-i : goal.invariant-loop-i
 invariant-loop-i l = Filling 0 (λ i. digit l.n (digit_count l.n - suc i)) l.initial.out l.out l.i
-
-abbrev pub decreases-loop-i : goal.decreases-loop-i
-decreases-loop-i l = length l.initial.out - l.i

@@ -19,13 +19,13 @@ pub loop-i-init : goal.loop-i-init
 unfolding body_offset all_below
 loop-i-init c =
     let e = c.table_end-start.ensures in
-    (search rules, e, omega (arith, c.requires.inside), refl)
+    (e, omega (arith, c.requires.inside), refl)
 
 -- what was asked of the entry is the rule of entry i
 asked : (c : the_After-obeys) →
     c.obeys.result ≡ entry_obeys c.args.file.now c.loop-i.i
 asked c =
-    c.obeys.ensures ∙ rw (c.version-v.ensures, c.loop-i.invariant.1, c.read_entry-e.ensures)
+    c.obeys.ensures ∙ rw (c.version-v.ensures, c.loop-i.invariant.0, c.read_entry-e.ensures)
 
 pub returns-then-not-obeys : goal.returns-then-not-obeys
 returns-then-not-obeys c =
@@ -38,10 +38,10 @@ unfolding body_offset all_below
 loop-i-preserved c =
     let b = c.before.before.before in
     let obeyed = sym (asked b) ∙ c.if-not-obeys.false in
-    (search rules, rw (add-one, c.loop-i.invariant.1, c.read_entry-e.ensures), search rules, rw (add-one, c.loop-i.invariant.3) obeyed)
+    (rw (add-one, c.loop-i.invariant.0, c.read_entry-e.ensures), search rules, rw (add-one, c.loop-i.invariant.2) obeyed)
 
 pub returns : goal.returns
 unfolding filled
 returns c =
     let e : c.loop-i.i ≡ count c.args.file.now = omega (arith, c.count-n.ensures) in
-    rw (← e, c.loop-i.invariant.3, c.loop-i.invariant.1)
+    rw (← e, c.loop-i.invariant.2, c.loop-i.invariant.0)

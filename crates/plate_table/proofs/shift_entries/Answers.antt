@@ -9,14 +9,14 @@ pub count-n-requires : goal.count-n-requires
 count-n-requires c = omega (arith, c.requires.tabled.inside)
 
 pub loop-i-init : goal.loop-i-init
-loop-i-init c = (omega arith, none_yet _ c.requires)
+loop-i-init c = none_yet _ c.requires
 
 -- entry i is one of the table's, and past the loop all are written
 pub shift_entry-requires : goal.shift_entry-requires
 shift_entry-requires c =
     let l = c.loop-i in
     let m : l.i < count c.args.bytes.now = omega (arith, c.count-n.ensures) in
-    let is = l.invariant.1 in (
+    let is = l.invariant in (
       now_tabled _ c.requires l.i (omega arith) l.bytes is,
       rw (now_count _ c.requires l.i (omega arith) l.bytes is) m,
       rw (now_version _ c.requires l.i (omega arith) l.bytes is, now_entry _ c.requires l.i (omega arith) l.bytes is m) (c.requires.far l.i m),
@@ -26,15 +26,15 @@ pub loop-i-preserved : goal.loop-i-preserved
 loop-i-preserved c =
     let l = c.loop-i in
     let m : l.i < count c.args.bytes.now = omega (arith, c.count-n.ensures) in
-    (omega arith, now_more _ c.requires l.i (omega arith) l.bytes l.invariant.1 m _ c.shift_entry.ensures)
+    now_more _ c.requires l.i (omega arith) l.bytes l.invariant m _ c.shift_entry.ensures
 
 pub shape_of-bytes : goal.shape_of-bytes
 shape_of-bytes c =
     let l = c.loop-i in
     let all : l.i ≡ count c.args.bytes.now = omega (arith, c.count-n.ensures) in
-    now_long _ c.requires l.i (omega arith) l.bytes l.invariant.1
+    now_long _ c.requires l.i (omega arith) l.bytes l.invariant
 
 pub returns : goal.returns
 returns c =
     let all : c.loop-i.i ≡ count c.args.bytes.now = omega (arith, c.count-n.ensures) in
-    rw (← all) c.loop-i.invariant.1
+    rw (← all) c.loop-i.invariant

@@ -1,19 +1,18 @@
 use mathlib.Core.Path.{refl, ◌∙◌, ap}
 use native.Mathlib.Numerals.{add-one}
 use native.Mathlib.Omega.{arith}
-use borrow.Author.Rules.{rules}
 use Rattle.job.specs.Job.{longest_below}
 use Rattle.job.proofs.longest.longest_body.Goals as goal
 
 pub loop-i-init : goal.loop-i-init
 unfolding longest_below
-loop-i-init c = (search rules, refl)
+loop-i-init c = refl
 
 pub loop-i-preserved : goal.loop-i-preserved
 unfolding longest_below
 loop-i-preserved c =
-    (search rules, c.greatest-longest.ensures ∙ rw (add-one, c.loop-i.invariant.1, c.read_entry-e.ensures))
+    c.max-longest.ensures ∙ rw (add-one, c.loop-i.invariant, c.read_entry-e.ensures)
 
 pub returns : goal.returns
 returns c =
-    c.loop-i.invariant.1 ∙ ap (longest_below _) (omega (arith, c.count-n.ensures))
+    c.loop-i.invariant ∙ ap (longest_below _) (omega (arith, c.count-n.ensures))

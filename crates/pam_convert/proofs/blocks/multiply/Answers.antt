@@ -10,16 +10,15 @@ use Rattle.pam_convert.proofs.blocks.multiply.Goals as goal
 
 pub loop-i-init : goal.loop-i-init
 unfolding build
-loop-i-init c = (omega arith, refl, refl)
+loop-i-init c = (refl, refl)
 
 pub loop-i-preserved : goal.loop-i-preserved
 loop-i-preserved c = (
-  omega arith,
-  rw (c.premultiply.ensures, c.loop-i.invariant.1) (build_more (λ j. premultiply (get_or c.args.body.now j 0) (get_or c.args.factors.now j 0)) c.args.picture.now c.loop-i.i (omega arith)),
-  simp length-set c.loop-i.invariant.2,
+  rw (c.premultiply.ensures, c.loop-i.invariant.0) (build_more (λ j. premultiply (get_or c.args.body.now j 0) (get_or c.args.factors.now j 0)) c.args.picture.now c.loop-i.i (omega arith)),
+  simp length-set c.loop-i.invariant.1,
 )
 
 pub returns : goal.returns
 returns c =
     let all : c.loop-i.i ≡ length c.args.picture.now = omega arith in
-    rw (c.loop-i.invariant.1, all, drop-length c.args.picture.now, append-nil, c.requires.fact_1)
+    rw (c.loop-i.invariant.0, all, drop-length c.args.picture.now, append-nil, c.requires.fact_1)

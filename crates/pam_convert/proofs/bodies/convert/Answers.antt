@@ -21,7 +21,7 @@ module _ (to from : List ℕ) (same : length from ≡ length to) where
   front_from = length-take-le whole from (omega arith)
 
 pub convert_blocks-requires : goal.convert_blocks-requires
-convert_blocks-requires c =
+convert_blocks-requires g c =
     let to = c.args.to.now in
     let from = c.args.from.now in
     let same = c.requires.fact_1 in
@@ -29,11 +29,11 @@ convert_blocks-requires c =
       fact_1 = (front_from to from same ∙ sym (front_to to from same), omega (arith, front_to to from same));
       fact_2 = refl;
       fact_3 = refl;
-      fact_4 = part_fits from 0 (whole to from same) refl c.args.out (omega arith) c.requires.fact_3;
+      fact_4 = part_fits from 0 (whole to from same) refl g.W.Words.out (omega arith) c.requires.fact_3;
     }
 
 pub convert_rest-requires : goal.convert_rest-requires
-convert_rest-requires c =
+convert_rest-requires g c =
     let to = c.args.to.now in
     let from = c.args.from.now in
     let same = c.requires.fact_1 in
@@ -46,17 +46,17 @@ convert_rest-requires c =
       );
       fact_2 = refl;
       fact_3 = refl;
-      fact_4 = part_fits from (whole to from same) (length from - whole to from same) (omega arith) c.args.out (omega arith) c.requires.fact_3;
+      fact_4 = part_fits from (whole to from same) (length from - whole to from same) (omega arith) g.W.Words.out (omega arith) c.requires.fact_3;
     }
 
 pub returns : goal.returns
-returns c =
+returns g c =
     let to = c.args.to.now in
     let from = c.args.from.now in
-    joined (rule c.args.out) from to _ _ (whole to from c.requires.fact_1) (omega arith) (omega arith) c.requires.fact_2 c.requires.fact_1 c.convert_blocks.ensures c.convert_rest.ensures
+    joined (rule g.W.Words.out) from to _ _ (whole to from c.requires.fact_1) (omega arith) (omega arith) c.requires.fact_2 c.requires.fact_1 c.convert_blocks.ensures c.convert_rest.ensures
 
 pub slice_bounds-convert_blocks-end-2 : goal.slice_bounds-convert_blocks-end-2
-slice_bounds-convert_blocks-end-2 c = sym (front_to c.args.to.now c.args.from.now c.requires.fact_1)
+slice_bounds-convert_blocks-end-2 g c = sym (front_to c.args.to.now c.args.from.now c.requires.fact_1)
 
 pub slice_bounds-convert_blocks-end-3 : goal.slice_bounds-convert_blocks-end-3
-slice_bounds-convert_blocks-end-3 c = sym (front_from c.args.to.now c.args.from.now c.requires.fact_1)
+slice_bounds-convert_blocks-end-3 g c = sym (front_from c.args.to.now c.args.from.now c.requires.fact_1)
