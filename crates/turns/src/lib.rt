@@ -42,10 +42,8 @@ fn gather(src: &[u8], p: usize, step: usize, dst: &mut [u8], q: usize, count: us
     requires fact_2 { q + count * size ≤ length dst.old }
     ensures { Run 0 dst.old dst.new q (count * size) (λ j. get_or src.now (p + j / size * step + j % size) 0) }
 {
-    let mut y = 0;
-    while y < count {
+    for y in 0..count {
         copy_element(src, p + y * step, dst, q + y * size, size);
-        y += 1;
     }
 }
 
@@ -54,8 +52,7 @@ fn turn_elements(src: &[u8], dst: &mut [u8], lines: usize, len: usize, size: usi
     requires { Turnable src.now dst.old lines len size }
     ensures { dst.new ≡ turned src.now lines len size }
 {
-    let mut x = 0;
-    while x < len {
+    for x in 0..len {
         gather(
             src,
             x * size,
@@ -65,7 +62,6 @@ fn turn_elements(src: &[u8], dst: &mut [u8], lines: usize, len: usize, size: usi
             lines,
             size,
         );
-        x += 1;
     }
 }
 

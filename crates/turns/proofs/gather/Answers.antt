@@ -11,25 +11,23 @@ ends : (c : In-loop-y) →
     let a = c.args in (a.p + c.loop-y.y * a.step + a.size ≤ length a.src.now) × (a.q + c.loop-y.y * a.size + a.size ≤ length c.loop-y.dst)
 ends c =
     let a = c.args in
-    (c.requires.fact_1 c.loop-y.y c.loop-y-test.true, omega (arith, within a.q a.size c.loop-y.y a.count c.loop-y-test.true, c.requires.fact_2, c.loop-y.invariant.1.size))
+    (c.requires.fact_1 c.loop-y.y c.loop-y-test.true, omega (arith, within a.q a.size c.loop-y.y a.count c.loop-y-test.true, c.requires.fact_2, c.loop-y.invariant.size))
 
 pub copy_element-requires : goal.copy_element-requires
 copy_element-requires c = let e = ends (goal.at.copy_element-requires c).In-loop-y in record { fact_1 = e.0; fact_2 = e.1 }
 
 pub loop-y-preserved : goal.loop-y-preserved
 loop-y-preserved c =
-    let a = c.args in (
-      omega (arith, c.loop-y-test.true),
-      span_join (omega arith) (omega (arith, scale 0 a.size c.loop-y.y (c.loop-y.y + 1) (omega arith))) c.loop-y.invariant.1 (span_element (λ y k. get_or a.src.now (a.p + y * a.step + k) 0) c.loop-y.y refl c.copy_element.ensures),
-    )
+    let a = c.args in
+    span_join (omega arith) (omega (arith, scale 0 a.size c.loop-y.y (c.loop-y.y + 1) (omega arith))) c.loop-y.invariant (span_element (λ y k. get_or a.src.now (a.p + y * a.step + k) 0) c.loop-y.y refl c.copy_element.ensures)
 
 pub returns : goal.returns
 returns c =
     let all : c.loop-y.y ≡ c.args.count = omega (arith, c.loop-y-test.false) in
-    rw all at c.loop-y.invariant.1
+    rw all at c.loop-y.invariant
 
 pub loop-y-init : goal.loop-y-init
-loop-y-init c = (omega arith, span_none (omega arith))
+loop-y-init c = span_none (omega arith)
 
 pub overflow_mul-y : goal.overflow_mul-y
 overflow_mul-y c = omega (arith, ends (goal.at.overflow_mul-y c).In-loop-y)
@@ -44,4 +42,4 @@ pub overflow_add-q : goal.overflow_add-q
 overflow_add-q c = omega (arith, ends (goal.at.overflow_add-q c).In-loop-y)
 
 pub shape_of-dst : goal.shape_of-dst
-shape_of-dst c = c.loop-y.invariant.1.size
+shape_of-dst c = c.loop-y.invariant.size

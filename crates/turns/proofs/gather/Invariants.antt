@@ -1,11 +1,8 @@
 -- Each turn copies one element more.
-use Prim.Native.Nat.{◌+◌, ◌*◌, ◌/◌, ◌%◌, ◌-◌, ◌≤◌}
+use Prim.Native.Nat.{◌+◌, ◌*◌, ◌/◌, ◌%◌}
 use lib.ListN.{get_or}
 use Rattle.picture.specs.Spans.{Span}
 use Rattle.turns.proofs.gather.Given as goal
 
 abbrev pub invariant-loop-y : goal.invariant-loop-y
-invariant-loop-y l = (l.y ≤ l.count) × Span 0 l.initial.dst l.dst l.q 0 (l.y * l.size) (λ j. get_or l.src (l.p + j / l.size * l.step + j % l.size) 0)
-
-abbrev pub decreases-loop-y : goal.decreases-loop-y
-decreases-loop-y l = l.count - l.y
+invariant-loop-y l = Span 0 l.initial.dst l.dst l.q 0 (l.y * l.size) (λ j. get_or l.src (l.p + j / l.size * l.step + j % l.size) 0)

@@ -21,7 +21,7 @@ read c y l =
 writes : (c : In-loop-x) → let n = c.args.lines * c.args.size in c.loop-x.x * n + n ≤ length c.loop-x.dst
 writes c =
     let a = c.args in
-    omega (arith, within 0 (a.lines * a.size) c.loop-x.x a.len c.loop-x-test.true, c.requires.dst_size, c.loop-x.invariant.1.size)
+    omega (arith, within 0 (a.lines * a.size) c.loop-x.x a.len c.loop-x-test.true, c.requires.dst_size, c.loop-x.invariant.size)
 
 line : (c : In-loop-x) → let a = c.args in a.len * a.size ≤ length a.src.now
 line c =
@@ -30,20 +30,18 @@ line c =
 pub loop-x-preserved : goal.loop-x-preserved
 loop-x-preserved c =
     let b = c.args in
-    let n = b.lines * b.size in (
-      omega (arith, c.loop-x-test.true),
-      span_join (omega arith) (omega (arith, scale 0 n c.loop-x.x (c.loop-x.x + 1) (omega arith))) c.loop-x.invariant.1 (span_element (turned_byte b.src.now b.len b.size) c.loop-x.x (omega arith) c.gather.ensures),
-    )
+    let n = b.lines * b.size in
+    span_join (omega arith) (omega (arith, scale 0 n c.loop-x.x (c.loop-x.x + 1) (omega arith))) c.loop-x.invariant (span_element (turned_byte b.src.now b.len b.size) c.loop-x.x (omega arith) c.gather.ensures)
 
 pub returns : goal.returns
 unfolding turned
 returns c =
     let all : c.loop-x.x ≡ c.args.len = omega (arith, c.loop-x-test.false) in
-    let made = rw all at c.loop-x.invariant.1 in
+    let made = rw all at c.loop-x.invariant in
     build_ext _ _ c.loop-x.dst (made.size ∙ c.requires.dst_size) (λ i h. span_at made i (omega arith) (omega arith) h)
 
 pub loop-x-init : goal.loop-x-init
-loop-x-init c = (omega arith, span_none (omega arith))
+loop-x-init c = span_none (omega arith)
 
 pub overflow_mul-x : goal.overflow_mul-x
 overflow_mul-x c = omega (arith, read (goal.at.overflow_mul-x c).In-loop-x 0 c.requires.some)
@@ -61,4 +59,4 @@ pub gather-requires : goal.gather-requires
 gather-requires c = let t = (goal.at.gather-requires c).In-loop-x in record { fact_1 = read t; fact_2 = writes t }
 
 pub shape_of-dst : goal.shape_of-dst
-shape_of-dst c = c.loop-x.invariant.1.size
+shape_of-dst c = c.loop-x.invariant.size
