@@ -3,15 +3,11 @@ use mathlib.Core.Path.{◌≡◌}
 use mathlib.Core.Bool.{Bool, true, false}
 use mathlib.Core.List.{List}
 use Prim.Native.Nat.{ℕ, suc, ◌+◌, ◌-◌, ◌*◌, ◌<◌, ◌≤◌}
-use native.Mathlib.Nat.{add-mul, one-mul, sub-zero}
+use native.Mathlib.Nat.{sub-zero}
 use native.Mathlib.Numerals.{add-one}
 use native.Mathlib.Omega.{arith}
 use Rattle.pixels.specs.Channels.{exceeds_at}
 use Rattle.grading.specs.Premultiplied.{Finding, none, found_at, first_from, scanned}
-
--- the place after a row's last is the next row's first
-pub next_row : (y w : ℕ) → (y + 1) * w ≡ y * w + w
-next_row y w = rw (add-mul, one-mul)
 
 -- the scan of m places, from k on
 abbrev pub onward : (ℕ → Bool) → ℕ → ℕ → Finding

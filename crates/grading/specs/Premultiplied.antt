@@ -1,10 +1,11 @@
 -- The premultiplied check.
-use Rattle.std.specs.Prelude.{Bool, true, false, cond, List, ℕ, zero, suc, ◌*◌, length}
+use Rattle.std.specs.Prelude.{Bool, true, false, cond, List, Option, Some, None, ℕ, zero, suc, ◌*◌, length}
 use Rattle.picture.specs.Refusal.{first_of, picture_checks}
 use Rattle.picture.specs.Answer.{Answer, answered, settled}
 use Rattle.pixels.specs.Channels.{exceeds_at}
 use Rattle.grading.specs.declared.premultiplied.PictureRefusal.{PictureRefusal}
 use Rattle.grading.specs.declared.premultiplied.PictureRefusal.TheVariants.{WrongSides, WrongLength}
+use Rattle.grading.specs.declared.premultiplied.Place.{Place}
 use Rattle.grading.specs.declared.premultiplied.Checked.{Checked}
 use Rattle.grading.specs.declared.premultiplied.Checked.TheVariants.{Refused, Fits, Exceeds}
 
@@ -18,6 +19,11 @@ none = record { found = false; place = 0 }
 
 abbrev pub found_at : ℕ → Finding
 found_at k = record { found = true; place = k }
+
+-- what the scan answers
+abbrev pub found : Option Place → Finding
+found (Some p) = found_at p.at
+found None = none
 
 -- the number of each refusal of the check
 abbrev pub check_number : PictureRefusal → ℕ

@@ -1,8 +1,7 @@
 // The premultiplied check: the first pixel of which a channel exceeds alpha.
 ghost use Rattle.std.specs.Prelude.{◌≡◌};
-ghost use Rattle.picture.specs.Answer.{answered};
 ghost use Rattle.picture.specs.Sizes.{Pictured};
-ghost use Rattle.grading.specs.Premultiplied.{check_number, scanned, checked, finding};
+ghost use Rattle.grading.specs.Premultiplied.{check_number, found, scanned, checked, finding};
 
 use picture::FullSize;
 use pixels::{exceeds, pixel_at};
@@ -41,26 +40,20 @@ pub enum Checked {
 }
 
 // The first pixel that exceeds, rows downward, each left to right.
-pub fn scan(picture: &[u8], size: FullSize) -> Checked
+pub fn scan(picture: &[u8], size: FullSize) -> Option<Place>
     requires { Pictured size.w size.h picture.now }
-    ensures { finding result ≡ answered 0 (scanned picture.now size.w size.h) }
+    ensures { found result ≡ scanned picture.now size.w size.h }
 {
     let w = size.width();
     let h = size.height();
-    let mut found = Checked::Fits;
-    let mut y = 0;
-    'rows: while y < h {
-        let mut x = 0;
-        while x < w {
+    for y in 0..h {
+        for x in 0..w {
             if exceeds(pixel_at(picture, y * w + x)) {
-                found = Checked::Exceeds(Place { at: y * w + x });
-                break 'rows;
+                return Some(Place { at: y * w + x });
             }
-            x += 1;
         }
-        y += 1;
     }
-    found
+    None
 }
 
 // The first pixel of which a channel exceeds alpha, or that there is none. It gives refusals 1 and 2.
@@ -73,5 +66,8 @@ pub fn check(picture: &[u8], w: u32, h: u32) -> Checked
     if picture::wrong_length(picture.len(), w, h) {
         return Checked::Refused(PictureRefusal::WrongLength);
     }
-    scan(picture, picture::full_size(w, h))
+    match scan(picture, picture::full_size(w, h)) {
+        Some(place) => Checked::Exceeds(place),
+        None => Checked::Fits,
+    }
 }

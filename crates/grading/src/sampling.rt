@@ -1,7 +1,6 @@
 // The sampling view: a picture with its sizes and its edge rule, sampled at any two coordinates.
 ghost use Rattle.std.specs.Prelude.{◌≡◌};
-ghost use Rattle.picture.specs.Slice.{slice_part};
-ghost use Rattle.grading.specs.Sampling.{view_refusal, clear, Held, sampled_pixel, sampled, seen_part, seen_side, seen, viewed};
+ghost use Rattle.grading.specs.Sampling.{view_refusal, clear, Held, sampled_pixel, sampled, seen, viewed};
 
 use edges::At;
 use picture::{FullSize, Pixel};
@@ -68,37 +67,22 @@ pub fn sample_at(picture: &[u8], w: u32, h: u32, edge: u32, x: i32, y: i32) -> P
     pixel_of(picture, size, column, row)
 }
 
-// The part that a view holds: all of the picture, or none of it where a check refuses.
-fn seen_part<'a>(picture: &'a [u8], w: u32, h: u32, edge: u32) -> &'a [u8]
-    ensures { slice_part result ≡ seen_part picture.entry w h edge }
-{
-    if view_refusal(picture, w, h, edge) != 0 {
-        return &picture[..0];
-    }
-    picture
-}
-
-// A side of a view: as it is, or 0 where a check refuses.
-fn seen_side(picture: &[u8], w: u32, h: u32, edge: u32, side: u32) -> u32
-    ensures { result ≡ seen_side picture.now w h edge side }
-{
-    if view_refusal(picture, w, h, edge) != 0 {
-        return 0;
-    }
-    side
-}
-
-// The view of a picture; `view_refusal` says why it is refused.
+// The view of a picture; `view_refusal` says why it is refused, and a refused one is 0 by 0 over an empty part.
 pub fn view_of<'a>(picture: &'a [u8], w: u32, h: u32, edge: u32) -> View<'a>
     ensures { seen result ≡ viewed picture.entry w h edge }
 {
-    let part = seen_part(picture, w, h, edge);
-    let wide = seen_side(picture, w, h, edge, w);
-    let high = seen_side(picture, w, h, edge, h);
+    if view_refusal(picture, w, h, edge) != 0 {
+        return View {
+            picture: &picture[..0],
+            w: 0,
+            h: 0,
+            edge,
+        };
+    }
     View {
-        picture: part,
-        w: wide,
-        h: high,
+        picture,
+        w,
+        h,
         edge,
     }
 }

@@ -1,9 +1,9 @@
 -- Each way out is one case of the definition: check 1, check 2, and the scan of a picture that passes both.
-use mathlib.Core.Path.{◌≡◌, ◌∙◌, sym}
+use mathlib.Core.Path.{◌≡◌, ◌∙◌, sym, ap}
 use mathlib.Core.Bool.{false}
 use lib.ListN.{length}
 use Rattle.picture.specs.Refusal.{first_else, first_of, wrong_sides, wrong_length}
-use Rattle.picture.specs.Answer.{settled}
+use Rattle.picture.specs.Answer.{answered, settled}
 use Rattle.grading.specs.Premultiplied.{checked}
 use Rattle.picture.proofs.Sizes.{whole}
 use Rattle.grading.proofs.premultiplied.check.Goals as goal
@@ -38,6 +38,10 @@ full_size-requires c = sides c.before.before.before
 pub scan-requires : goal.scan-requires
 scan-requires c = rw c.full_size.ensures (whole _ _ _ (sides c.before.before.before.before) (exact c.before.before))
 
-pub returns : goal.returns
+pub returns-in-Some : goal.returns-in-Some
 unfolding checked settled first_of first_else
-returns c = rw (sides c.before.before.before.before.before, exact c.before.before.before) (c.scan.ensures ∙ rw c.full_size.ensures)
+returns-in-Some c = rw (sym c.wrong_sides.ensures ∙ c.if-wrong_sides.false, sym c.wrong_length.ensures ∙ c.if-wrong_length.false) (ap (answered 0) (c.in-Some.ensures ∙ rw c.full_size.ensures))
+
+pub returns-in-None : goal.returns-in-None
+unfolding checked settled first_of first_else
+returns-in-None c = rw (sym c.wrong_sides.ensures ∙ c.if-wrong_sides.false, sym c.wrong_length.ensures ∙ c.if-wrong_length.false) (ap (answered 0) (c.in-None.ensures ∙ rw c.full_size.ensures))
