@@ -1,6 +1,5 @@
 -- Any two answers that an entry's contract allows of one call are one.
 use mathlib.Core.Path.{◌≡◌, ◌∙◌, sym}
-use Prim.Native.Nat.{ℕ}
 use seplogic.Ra.Ura.{Ura}
 use base.Logic.{SProp, ent, sep, fst∗, snd∗}
 use prog.Memory.{Memory}
@@ -11,27 +10,30 @@ use contract.Monad.{Fun, fact, fact_i, fact_use}
 use borrow.Fn.Kinds.{Dens, ended_of}
 use denote.Triple.Clauses.{AtExit}
 use denote.Triple.Entry.{Args}
+use Rattle.std.specs.Prelude.{Option, Result}
 use Rattle.picture.specs.declared.Pixel.{Pixel}
+use Rattle.picture.specs.declared.checks.Refusal.{Refusal}
 use Rattle.grading.specs.Sampling.{seen}
-use Rattle.grading.specs.declared.premultiplied.Checked.{Checked}
+use Rattle.grading.specs.declared.premultiplied.Place.{Place}
 use Rattle.grading.specs.declared.sampling.View.{View}
 use Rattle.grading.proofs.Injective.{finding_injective}
+use Rattle.grading.proofs.Refused.{number_of_once}
 use Rattle.grading.proofs.premultiplied.check.Reads as check
 use Rattle.grading.proofs.premultiplied.check.Kinds as check-kinds
-use Rattle.grading.proofs.sampling.view_refusal.Reads as view-refusal
-use Rattle.grading.proofs.sampling.view_refusal.Kinds as view-refusal-kinds
+use Rattle.grading.proofs.sampling.check_view.Reads as check-view
+use Rattle.grading.proofs.sampling.check_view.Kinds as check-view-kinds
 use Rattle.grading.proofs.sampling.sample_at.Reads as sample-at
 use Rattle.grading.proofs.sampling.sample_at.Kinds as sample-at-kinds
 use Rattle.grading.specs.contracts.sampling.sample as sample
 use Rattle.grading.specs.contracts.sampling.view_of as view_of
 
-pub check_determined : (κs : Lfts 1) (a : Dens κs check-kinds.ps) (r₁ r₂ : Checked) (x₁ x₂ : AtExit (ended_of 1 check-kinds.ps check-kinds.r) κs) →
+pub check_determined : (κs : Lfts 1) (a : Dens κs check-kinds.ps) (r₁ r₂ : Result (Option Place) Refusal) (x₁ x₂ : AtExit (ended_of 1 check-kinds.ps check-kinds.r) κs) →
     check.Post κs a r₁ x₁ → check.Post κs a r₂ x₂ → r₁ ≡ r₂
 check_determined κs a r₁ r₂ x₁ x₂ h₁ h₂ = finding_injective r₁ r₂ (h₁ ∙ sym h₂)
 
-pub view_refusal_determined : (κs : Lfts 1) (a : Dens κs view-refusal-kinds.ps) (r₁ r₂ : ℕ) (x₁ x₂ : AtExit (ended_of 1 view-refusal-kinds.ps view-refusal-kinds.r) κs) →
-    view-refusal.Post κs a r₁ x₁ → view-refusal.Post κs a r₂ x₂ → r₁ ≡ r₂
-view_refusal_determined κs a r₁ r₂ x₁ x₂ h₁ h₂ = h₁ ∙ sym h₂
+pub check_view_determined : (κs : Lfts 1) (a : Dens κs check-view-kinds.ps) (r₁ r₂ : Result Unit Refusal) (x₁ x₂ : AtExit (ended_of 1 check-view-kinds.ps check-view-kinds.r) κs) →
+    check-view.Post κs a r₁ x₁ → check-view.Post κs a r₂ x₂ → r₁ ≡ r₂
+check_view_determined κs a r₁ r₂ x₁ x₂ h₁ h₂ = number_of_once r₁ r₂ (h₁ ∙ sym h₂)
 
 pub sample_at_determined : (κs : Lfts 1) (a : Dens κs sample-at-kinds.ps) (r₁ r₂ : Pixel) (x₁ x₂ : AtExit (ended_of 1 sample-at-kinds.ps sample-at-kinds.r) κs) →
     sample-at.Post κs a r₁ x₁ → sample-at.Post κs a r₂ x₂ → r₁ ≡ r₂

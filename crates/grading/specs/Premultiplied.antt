@@ -1,13 +1,10 @@
 -- The premultiplied check.
-use Rattle.std.specs.Prelude.{Bool, true, false, cond, List, Option, Some, None, ℕ, zero, suc, ◌*◌, length}
-use Rattle.picture.specs.Refusal.{first_of, picture_checks}
+use Rattle.std.specs.Prelude.{Bool, true, false, cond, List, Option, Some, None, Result, Ok, Err, ℕ, zero, suc, ◌*◌, length}
+use Rattle.picture.specs.Refusal.{number, first_of, picture_checks}
+use Rattle.picture.specs.declared.checks.Refusal.{Refusal}
 use Rattle.picture.specs.Answer.{Answer, answered, settled}
 use Rattle.pixels.specs.Channels.{exceeds_at}
-use Rattle.grading.specs.declared.premultiplied.PictureRefusal.{PictureRefusal}
-use Rattle.grading.specs.declared.premultiplied.PictureRefusal.TheVariants.{WrongSides, WrongLength}
 use Rattle.grading.specs.declared.premultiplied.Place.{Place}
-use Rattle.grading.specs.declared.premultiplied.Checked.{Checked}
-use Rattle.grading.specs.declared.premultiplied.Checked.TheVariants.{Refused, Fits, Exceeds}
 
 -- whether there is a pixel of which a channel exceeds alpha, and the place of the first; the place is 0 where there is none
 pub record Finding : Type 0 where
@@ -25,16 +22,10 @@ abbrev pub found : Option Place → Finding
 found (Some p) = found_at p.at
 found None = none
 
--- the number of each refusal of the check
-abbrev pub check_number : PictureRefusal → ℕ
-check_number WrongSides = 1
-check_number WrongLength = 2
-
 -- the number and the values of each case of the answer
-abbrev pub finding : Checked → Answer Finding
-finding (Refused r) = answered (check_number r) none
-finding Fits = answered 0 none
-finding (Exceeds p) = answered 0 (found_at p.at)
+abbrev pub finding : Result (Option Place) Refusal → Answer Finding
+finding (Err r) = answered (number r) none
+finding (Ok place) = answered 0 (found place)
 
 -- the first of n places, counted from k, at which the test holds
 unfoldable pub first_from : (ℕ → Bool) → ℕ → ℕ → Finding

@@ -1,13 +1,11 @@
 -- The sampling view.
-use Rattle.std.specs.Prelude.{Bool, cond, List, [], ◌∷◌, ◌++◌, ℕ, ◌+◌, ◌*◌, ◌≤◌, eqb, ℤ, length}
+use Rattle.std.specs.Prelude.{Bool, cond, List, [], ◌∷◌, ◌++◌, Option, Some, None, ℕ, ◌+◌, ◌*◌, ◌≤◌, eqb, ℤ, length}
 use Rattle.std.specs.Borrow.{Bor}
 use Rattle.picture.specs.Modes.{mode_of}
 use Rattle.picture.specs.Refusal.{Check, check, first_of, picture_checks, wrong_edge}
 use Rattle.picture.specs.Slice.{SlicePart, slice_part}
 use Rattle.picture.specs.declared.Pixel.{Pixel}
 use Rattle.edges.specs.Whole.{place_of}
-use Rattle.edges.specs.declared.At.{At}
-use Rattle.edges.specs.declared.At.TheVariants.{Inside, Outside}
 use Rattle.pixels.specs.Pixels.{pixel_at}
 use Rattle.grading.specs.declared.sampling.View.{View}
 
@@ -28,16 +26,16 @@ abbrev pub clear : Pixel
 clear = record { r = 0; g = 0; b = 0; a = 0 }
 
 -- the pixel of a column and a row: four zeros where one of them is outside
-abbrev pub sampled_pixel : List ℕ → ℕ → At → At → Pixel
-sampled_pixel bytes w (Inside x) (Inside y) = pixel_at bytes (y * w + x)
-sampled_pixel bytes w (Inside x) Outside = clear
-sampled_pixel bytes w Outside row = clear
+abbrev pub sampled_pixel : List ℕ → ℕ → Option ℕ → Option ℕ → Pixel
+sampled_pixel bytes w (Some x) (Some y) = pixel_at bytes (y * w + x)
+sampled_pixel bytes w (Some x) None = clear
+sampled_pixel bytes w None row = clear
 
 -- the bytes hold it
-abbrev pub Held : List ℕ → ℕ → At → At → Type 0
-Held bytes w (Inside x) (Inside y) = 4 * (y * w + x) + 4 ≤ length bytes
-Held bytes w (Inside x) Outside = Unit
-Held bytes w Outside row = Unit
+abbrev pub Held : List ℕ → ℕ → Option ℕ → Option ℕ → Type 0
+Held bytes w (Some x) (Some y) = 4 * (y * w + x) + 4 ≤ length bytes
+Held bytes w (Some x) None = Unit
+Held bytes w None row = Unit
 
 -- the pixel at x, y, each extended by the edge rule; a view that the checks refuse answers four zeros everywhere
 unfoldable pub sampled : List ℕ → ℕ → ℕ → ℕ → ℤ → ℤ → Pixel

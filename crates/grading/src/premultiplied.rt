@@ -1,42 +1,15 @@
 // The premultiplied check: the first pixel of which a channel exceeds alpha.
 ghost use Rattle.std.specs.Prelude.{◌≡◌};
 ghost use Rattle.picture.specs.Sizes.{Pictured};
-ghost use Rattle.grading.specs.Premultiplied.{check_number, found, scanned, checked, finding};
+ghost use Rattle.grading.specs.Premultiplied.{found, scanned, checked, finding};
 
-use picture::FullSize;
+use picture::{FullSize, Refusal};
 use pixels::{exceeds, pixel_at};
 
 // A place in a picture: the number y * w + x.
 #[derive(Clone, Copy)]
 pub struct Place {
     pub at: usize,
-}
-
-// The refusals that the check gives.
-#[derive(Clone, Copy)]
-pub enum PictureRefusal {
-    WrongSides,
-    WrongLength,
-}
-
-impl PictureRefusal {
-    // The refusal's number.
-    pub fn number(self) -> u32
-        ensures { result ≡ check_number self }
-    {
-        match self {
-            PictureRefusal::WrongSides => picture::WRONG_SIDES,
-            PictureRefusal::WrongLength => picture::WRONG_LENGTH,
-        }
-    }
-}
-
-// What the check answers.
-#[derive(Clone, Copy)]
-pub enum Checked {
-    Refused(PictureRefusal),
-    Fits,
-    Exceeds(Place),
 }
 
 // The first pixel that exceeds, rows downward, each left to right.
@@ -57,17 +30,10 @@ pub fn scan(picture: &[u8], size: FullSize) -> Option<Place>
 }
 
 // The first pixel of which a channel exceeds alpha, or that there is none. It gives refusals 1 and 2.
-pub fn check(picture: &[u8], w: u32, h: u32) -> Checked
+#[tactic(auto, unfolding(picture::specs::Refusal::number_of, picture::specs::Refusal::first_of, picture::specs::Refusal::first_else, picture::specs::Answer::settled, crate::specs::Premultiplied::checked), using(crate::proofs::Refused::number_some, picture::proofs::Sizes::whole))]
+pub fn check(picture: &[u8], w: u32, h: u32) -> Result<Option<Place>, Refusal>
     ensures { finding result ≡ checked picture.now w h }
 {
-    if picture::wrong_sides(w, h) {
-        return Checked::Refused(PictureRefusal::WrongSides);
-    }
-    if picture::wrong_length(picture.len(), w, h) {
-        return Checked::Refused(PictureRefusal::WrongLength);
-    }
-    match scan(picture, picture::full_size(w, h)) {
-        Some(place) => Checked::Exceeds(place),
-        None => Checked::Fits,
-    }
+    picture::check_picture(picture.len(), w, h)?;
+    Ok(scan(picture, picture::full_size(w, h)))
 }

@@ -1,9 +1,9 @@
 // The sampling view: a picture with its sizes and its edge rule, sampled at any two coordinates.
 ghost use Rattle.std.specs.Prelude.{◌≡◌};
+ghost use Rattle.picture.specs.Refusal.{number_of};
 ghost use Rattle.grading.specs.Sampling.{view_refusal, clear, Held, sampled_pixel, sampled, seen, viewed};
 
-use edges::At;
-use picture::{FullSize, Pixel};
+use picture::{FullSize, Pixel, Refusal};
 use pixels::pixel_at;
 
 // A view of a picture, as anyone may make one.
@@ -15,16 +15,13 @@ pub struct View<'a> {
     pub edge: u32,
 }
 
-// The number that checks 1, 2 and 9 give a view.
-pub fn view_refusal(picture: &[u8], w: u32, h: u32, edge: u32) -> u32
-    ensures { result ≡ view_refusal picture.now w h edge }
+// The first of refusals 1, 2 and 9 that a view is given.
+#[tactic(auto, unfolding(picture::specs::Refusal::number_of, picture::specs::Refusal::number, picture::specs::Refusal::first_of, picture::specs::Refusal::first_else, crate::specs::Sampling::view_refusal), using(crate::proofs::Refused::number_some))]
+pub fn check_view(picture: &[u8], w: u32, h: u32, edge: u32) -> Result<(), Refusal>
+    ensures { number_of result ≡ view_refusal picture.now w h edge }
 {
-    picture::picture_refusal(
-        picture.len(),
-        w,
-        h,
-        picture::first(picture::WRONG_EDGE, picture::wrong_edge(edge), 0),
-    )
+    picture::check_picture(picture.len(), w, h)?;
+    picture::refuse_if(picture::wrong_edge(edge), Refusal::WrongEdge)
 }
 
 // Four zeros.
@@ -40,24 +37,21 @@ fn clear() -> Pixel
 }
 
 // The pixel of a column and a row: four zeros where one of them is outside.
-fn pixel_of(picture: &[u8], size: FullSize, column: At, row: At) -> Pixel
+fn pixel_of(picture: &[u8], size: FullSize, column: Option<usize>, row: Option<usize>) -> Pixel
     requires { Held picture.now size.w column row }
     ensures { result ≡ sampled_pixel picture.now size.w column row }
 {
-    let At::Inside(x) = column else {
-        return clear();
-    };
-    let At::Inside(y) = row else {
-        return clear();
-    };
-    pixel_at(picture, y * size.width() + x)
+    match (column, row) {
+        (Some(x), Some(y)) => pixel_at(picture, y * size.width() + x),
+        _ => clear(),
+    }
 }
 
 // The pixel at x, y, each extended by the edge rule: four zeros everywhere where a check refuses.
 pub fn sample_at(picture: &[u8], w: u32, h: u32, edge: u32, x: i32, y: i32) -> Pixel
     ensures { result ≡ sampled picture.now w h edge x y }
 {
-    if view_refusal(picture, w, h, edge) != 0 {
+    if check_view(picture, w, h, edge).is_err() {
         return clear();
     }
     let size = picture::full_size(w, h);
@@ -67,11 +61,11 @@ pub fn sample_at(picture: &[u8], w: u32, h: u32, edge: u32, x: i32, y: i32) -> P
     pixel_of(picture, size, column, row)
 }
 
-// The view of a picture; `view_refusal` says why it is refused, and a refused one is 0 by 0 over an empty part.
+// The view of a picture; `check_view` says why it is refused, and a refused one is 0 by 0 over an empty part.
 pub fn view_of<'a>(picture: &'a [u8], w: u32, h: u32, edge: u32) -> View<'a>
     ensures { seen result ≡ viewed picture.entry w h edge }
 {
-    if view_refusal(picture, w, h, edge) != 0 {
+    if check_view(picture, w, h, edge).is_err() {
         return View {
             picture: &picture[..0],
             w: 0,
