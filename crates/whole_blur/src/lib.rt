@@ -3,14 +3,14 @@
 
 ghost use Rattle.std.specs.Prelude.{◌≡◌};
 ghost use Rattle.picture.specs.Planes.{bytes_of, cleared};
-ghost use Rattle.picture.specs.Refusal.{first_else, first_of};
+ghost use Rattle.picture.specs.Refusal.{number_of, first_of};
 ghost use Rattle.picture.specs.Answer.{answered, lent};
 ghost use Rattle.whole_blur.specs.Blurred.{whole_blurred};
 ghost use Rattle.whole_blur.specs.Needs.{WholeReady, WholeAccepted};
-ghost use Rattle.whole_blur.specs.Outcome.{numerator_checks, whole_checks, whole_outcome};
+ghost use Rattle.whole_blur.specs.Outcome.{whole_checks, whole_outcome};
 
 use passes::Form;
-use picture::{EdgeMode, FullSize, LevelSize};
+use picture::{EdgeMode, FullSize, LevelSize, Refusal, refuse_if};
 
 // Halves, blurs with one decimation fewer, and doubles; with none left it convolves.
 fn apply_whole(
@@ -29,11 +29,7 @@ fn apply_whole(
     } else {
         let t = s.half();
         let k = t.bytes();
-        let form = Form {
-            planes: 1,
-            lanes: 4,
-        };
-        decimate::halve_form(picture, scratch, s, form, mode);
+        decimate::halve_form(picture, scratch, s, Form::PIXELS, mode);
         apply_whole(
             &mut picture[..k],
             &mut scratch[..k],
@@ -42,25 +38,13 @@ fn apply_whole(
             numerators,
             mode,
         );
-        decimate::double_form(picture, scratch, s, form, mode);
+        decimate::double_form(picture, scratch, s, Form::PIXELS, mode);
     }
 }
 
-// Checks 4 and 14, of a kernel of whole numbers, in front of what the later ones answer.
-fn numerator_refusal(numerators: &[u32], later: u32) -> u32
-    ensures { result ≡ first_else (numerator_checks numerators.now) later }
-{
-    let too_many = picture::wrong_taps(numerators.len());
-    let heavy = grid_sums::is_heavy(numerators);
-    picture::first(
-        picture::WRONG_TAPS,
-        too_many,
-        picture::first(picture::WRONG_SUM, heavy, later),
-    )
-}
-
-// The first of refusals 1, 2, 3, 4, 14, 6 and 9 that fits, 0 where none does; of the buffers' lengths.
-fn whole_refusal(
+// The first of refusals 1, 2, 3, 4, 14, 6 and 9 that fits; of the buffers' lengths.
+#[tactic(auto, unfolding(picture::specs::Refusal::number_of, picture::specs::Refusal::number, picture::specs::Refusal::first_of, picture::specs::Refusal::first_else))]
+fn check_whole(
     picture: usize,
     w: u32,
     h: u32,
@@ -68,18 +52,15 @@ fn whole_refusal(
     numerators: &[u32],
     n: u32,
     edge: u32,
-) -> u32
-    ensures { result ≡ first_of (whole_checks picture w h scratch numerators.now n edge) }
+) -> Result<(), Refusal>
+    ensures { number_of result ≡ first_of (whole_checks picture w h scratch numerators.now n edge) }
 {
-    let short = picture::too_short(scratch, w, h);
-    let nine = picture::first(picture::WRONG_EDGE, picture::wrong_edge(edge), 0);
-    let six = picture::first(picture::TOO_DEEP, picture::too_deep(n), nine);
-    let three = picture::first(
-        picture::TOO_SHORT,
-        short,
-        numerator_refusal(numerators, six),
-    );
-    picture::picture_refusal(picture, w, h, three)
+    picture::check_picture(picture, w, h)?;
+    refuse_if(picture::too_short(scratch, w, h), Refusal::TooShort)?;
+    refuse_if(picture::wrong_taps(numerators.len()), Refusal::WrongTaps)?;
+    refuse_if(grid_sums::is_heavy(numerators), Refusal::WrongSum)?;
+    refuse_if(picture::too_deep(n), Refusal::TooDeep)?;
+    refuse_if(picture::wrong_edge(edge), Refusal::WrongEdge)
 }
 
 // An accepted call: the picture blurred, and the scratch zero where it was used.
@@ -115,15 +96,12 @@ pub fn blur_whole(
     numerators: &[u32],
     n: u32,
     edge: u32,
-) -> u32
-    ensures { answered result (lent picture.new scratch.new) ≡ whole_outcome picture.old w h scratch.old numerators.now n edge }
+) -> Result<(), Refusal>
+    ensures { answered (number_of result) (lent picture.new scratch.new) ≡ whole_outcome picture.old w h scratch.old numerators.now n edge }
 {
-    let r = whole_refusal(picture.len(), w, h, scratch.len(), numerators, n, edge);
-    if r != 0 {
-        return r;
-    }
+    check_whole(picture.len(), w, h, scratch.len(), numerators, n, edge)?;
     let size = picture::full_size(w, h);
     let mode = picture::edge_mode(edge);
     whole_accepted(picture, scratch, size, n, numerators, mode);
-    0
+    Ok(())
 }
