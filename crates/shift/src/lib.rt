@@ -2,23 +2,15 @@
 #![tactic(auto)]
 
 ghost use Rattle.std.specs.Prelude.{◌≡◌, ◌||◌, ◌+◌, ◌*◌, ◌≤◌, ◌<◌, length};
-ghost use Rattle.picture.specs.Refusal.{first_of};
+ghost use Rattle.picture.specs.Refusal.{number_of, first_of};
 ghost use Rattle.picture.specs.Answer.{answered};
-ghost use Rattle.picture.specs.Buffers.{copied};
 ghost use Rattle.binary32.specs.Round.{whole_offset};
 ghost use Rattle.shift.specs.Shift.{shifted_picture};
-ghost use Rattle.shift.specs.Bytes.{along, slid, zeroed, run_moved, turn_row, columns_zeroed, inside_kept, plane_shifted, OneWay, moved_out, elements_shifted};
+ghost use Rattle.shift.specs.Bytes.{slid, zeroed, run_moved, turn_row, columns_zeroed, inside_kept, plane_shifted, OneWay, moved_out, elements_shifted};
 ghost use Rattle.shift.specs.Outcome.{wrong_offsets, ShiftReady, ElementsReady, shift_checks, shift_outcome};
 
 use binary32::Offset;
-use picture::FullSize;
-
-// A move along bytes: this many forward, or this many back. An `Offset` counts whole pixels, or rows.
-#[derive(Clone, Copy)]
-pub struct ByteOffset {
-    pub plus: usize,
-    pub minus: usize,
-}
+use picture::{FullSize, Refusal, refuse_if};
 
 // Sets the n bytes from `start` on to zero.
 fn clear_run(bytes: &mut [u8], start: usize, n: usize)
@@ -28,53 +20,33 @@ fn clear_run(bytes: &mut [u8], start: usize, n: usize)
     picture::clear(&mut bytes[start..], n);
 }
 
-// Copies the n bytes from `from` on to the place `to`.
-fn copy_run(bytes: &mut [u8], from: usize, to: usize, n: usize)
-    requires { (from + n ≤ length bytes.old) × (to + n ≤ length bytes.old) }
-    ensures { bytes.new ≡ copied n from to bytes.old }
-{
-    if from < to {
-        picture::copy_forward(bytes, from, to, n);
-        return;
-    }
-    if to < from {
-        picture::copy_back(bytes, from, to, n);
-    }
-}
-
 // Makes of the w bytes from `to` on those from `from` on, moved by d: what stays inside is copied, the rest is cleared.
-fn move_run(bytes: &mut [u8], from: usize, to: usize, w: usize, d: ByteOffset)
-    requires { (from + w ≤ length bytes.old) × (to + w ≤ length bytes.old) × OneWay (along d) × (d.plus + d.minus ≤ w) }
-    ensures { bytes.new ≡ run_moved (along d) w from to bytes.old }
+fn move_run(bytes: &mut [u8], from: usize, to: usize, w: usize, d: Offset)
+    requires { (from + w ≤ length bytes.old) × (to + w ≤ length bytes.old) × OneWay d × (d.plus + d.minus ≤ w) }
+    ensures { bytes.new ≡ run_moved d w from to bytes.old }
 {
     let plus = d.plus;
     let minus = d.minus;
     let kept = w - (plus + minus);
-    copy_run(bytes, from + minus, to + plus, kept);
+    picture::move_bytes(bytes, from + minus, to + plus, kept);
     clear_run(bytes, to, plus);
     clear_run(bytes, to + plus + kept, minus);
 }
 
 // The same move with one of its numbers 0.
-fn net(d: ByteOffset) -> ByteOffset
-    ensures { OneWay (along result) × (result.plus + d.minus ≡ d.plus + result.minus) }
+fn net(d: Offset) -> Offset
+    ensures { OneWay result × (result.plus + d.minus ≡ d.plus + result.minus) }
 {
-    if d.minus < d.plus {
-        return ByteOffset {
-            plus: d.plus - d.minus,
-            minus: 0,
-        };
-    }
-    ByteOffset {
-        plus: 0,
-        minus: d.minus - d.plus,
+    Offset {
+        plus: d.plus.saturating_sub(d.minus),
+        minus: d.minus.saturating_sub(d.plus),
     }
 }
 
 // Moves every byte by d places.
-fn slide(bytes: &mut [u8], d: ByteOffset)
+fn slide(bytes: &mut [u8], d: Offset)
     requires { (d.plus ≤ length bytes.old) × (d.minus ≤ length bytes.old) }
-    ensures { bytes.new ≡ slid (along d) bytes.old }
+    ensures { bytes.new ≡ slid d bytes.old }
 {
     let n = bytes.len();
     move_run(bytes, 0, 0, n, net(d));
@@ -85,10 +57,8 @@ fn clear_each(bytes: &mut [u8], w: usize, h: usize, start: usize, n: usize)
     requires { (length bytes.old ≡ h * w) × (start + n ≤ w) }
     ensures { bytes.new ≡ columns_zeroed w start n bytes.old }
 {
-    let mut y = 0;
-    while y < h {
+    for y in 0..h {
         clear_run(bytes, y * w + start, n);
-        y += 1;
     }
 }
 
@@ -97,21 +67,18 @@ fn clear_columns(bytes: &mut [u8], w: usize, h: usize, start: usize, n: usize)
     requires { (length bytes.old ≡ h * w) × (start + n ≤ w) }
     ensures { bytes.new ≡ columns_zeroed w start n bytes.old }
 {
-    if n == 4 {
-        clear_each(bytes, w, h, start, 4);
-    } else if n == 8 {
-        clear_each(bytes, w, h, start, 8);
-    } else if n == 12 {
-        clear_each(bytes, w, h, start, 12);
-    } else {
-        clear_each(bytes, w, h, start, n);
+    match n {
+        4 => clear_each(bytes, w, h, start, 4),
+        8 => clear_each(bytes, w, h, start, 8),
+        12 => clear_each(bytes, w, h, start, 12),
+        _ => clear_each(bytes, w, h, start, n),
     }
 }
 
 // Sets each byte to zero that came from another row: the first columns, or the last.
-fn clear_exposed(bytes: &mut [u8], w: usize, h: usize, dx: ByteOffset)
-    requires { (length bytes.old ≡ h * w) × OneWay (along dx) × (dx.plus + dx.minus < w) }
-    ensures { bytes.new ≡ inside_kept (along dx) w bytes.old }
+fn clear_exposed(bytes: &mut [u8], w: usize, h: usize, dx: Offset)
+    requires { (length bytes.old ≡ h * w) × OneWay dx × (dx.plus + dx.minus < w) }
+    ensures { bytes.new ≡ inside_kept dx w bytes.old }
 {
     if 0 < dx.plus {
         clear_columns(bytes, w, h, 0, dx.plus);
@@ -123,25 +90,22 @@ fn clear_exposed(bytes: &mut [u8], w: usize, h: usize, dx: ByteOffset)
 }
 
 // Whether nothing of a plane of w by h lies inside once it is moved by dx and dy.
-fn moved_out(w: usize, h: usize, dx: ByteOffset, dy: Offset) -> bool
-    requires { OneWay (along dx) × OneWay dy }
-    ensures { result ≡ moved_out w (along dx) || moved_out h dy }
+fn moved_out(w: usize, h: usize, dx: Offset, dy: Offset) -> bool
+    requires { OneWay dx × OneWay dy }
+    ensures { result ≡ moved_out w dx || moved_out h dy }
 {
-    if w <= dx.plus + dx.minus {
-        return true;
-    }
-    h <= dy.plus + dy.minus
+    w <= dx.plus + dx.minus || h <= dy.plus + dy.minus
 }
 
 // Moves a plane of h rows of w bytes by dx and dy, all rows as one line, by dy rows and dx bytes at once;
 // what that brought in from another row is then cleared.
-fn move_flat(bytes: &mut [u8], w: usize, h: usize, dx: ByteOffset, dy: Offset)
-    requires { (length bytes.old ≡ h * w) × OneWay (along dx) × OneWay dy × (dx.plus + dx.minus < w) × (dy.plus + dy.minus < h) }
-    ensures { bytes.new ≡ plane_shifted (along dx) dy w h bytes.old }
+fn move_flat(bytes: &mut [u8], w: usize, h: usize, dx: Offset, dy: Offset)
+    requires { (length bytes.old ≡ h * w) × OneWay dx × OneWay dy × (dx.plus + dx.minus < w) × (dy.plus + dy.minus < h) }
+    ensures { bytes.new ≡ plane_shifted dx dy w h bytes.old }
 {
     slide(
         bytes,
-        ByteOffset {
+        Offset {
             plus: dy.plus * w + dx.plus,
             minus: dy.minus * w + dx.minus,
         },
@@ -154,25 +118,20 @@ fn turn_row(dy: Offset, n: usize, k: usize) -> usize
     requires { k < n }
     ensures { result ≡ turn_row dy n k }
 {
-    if 0 < dy.plus {
-        return n - 1 - k;
-    }
-    k
+    if 0 < dy.plus { n - 1 - k } else { k }
 }
 
 // Moves a plane of h rows of w bytes by dx and dy, row by row: only what stays inside is moved.
-fn move_rows(bytes: &mut [u8], w: usize, h: usize, dx: ByteOffset, dy: Offset)
-    requires { (length bytes.old ≡ h * w) × OneWay (along dx) × OneWay dy × (dx.plus + dx.minus < w) × (dy.plus + dy.minus < h) }
-    ensures { bytes.new ≡ plane_shifted (along dx) dy w h bytes.old }
+fn move_rows(bytes: &mut [u8], w: usize, h: usize, dx: Offset, dy: Offset)
+    requires { (length bytes.old ≡ h * w) × OneWay dx × OneWay dy × (dx.plus + dx.minus < w) × (dy.plus + dy.minus < h) }
+    ensures { bytes.new ≡ plane_shifted dx dy w h bytes.old }
 {
     let down = dy.plus;
     let up = dy.minus;
     let kept = h - (down + up);
-    let mut k = 0;
-    while k < kept {
+    for k in 0..kept {
         let r = turn_row(dy, kept, k);
         move_run(bytes, (r + up) * w, (r + down) * w, w, dx);
-        k += 1;
     }
     clear_run(bytes, 0, down * w);
     clear_run(bytes, (down + kept) * w, up * w);
@@ -181,9 +140,9 @@ fn move_rows(bytes: &mut [u8], w: usize, h: usize, dx: ByteOffset, dy: Offset)
 // Moves a plane of h rows of w bytes by dx and dy: row by row where much of each row leaves it, else as one line, which
 // is the quicker for narrow planes and for small moves. Much is more than a quarter of the row and 32 bytes: at less, what
 // the one line moves and then clears costs less than a call for each row.
-pub fn move_plane(bytes: &mut [u8], w: usize, h: usize, dx: ByteOffset, dy: Offset)
-    requires { (length bytes.old ≡ h * w) × OneWay (along dx) × OneWay dy }
-    ensures { bytes.new ≡ plane_shifted (along dx) dy w h bytes.old }
+pub fn move_plane(bytes: &mut [u8], w: usize, h: usize, dx: Offset, dy: Offset)
+    requires { (length bytes.old ≡ h * w) × OneWay dx × OneWay dy }
+    ensures { bytes.new ≡ plane_shifted dx dy w h bytes.old }
 {
     if moved_out(w, h, dx, dy) {
         let n = bytes.len();
@@ -211,7 +170,7 @@ fn offset_elements(bytes: &mut [u8], lanes: usize, size: FullSize, dx: f32, dy: 
         bytes,
         lanes * w,
         h,
-        ByteOffset {
+        Offset {
             plus: lanes * across.plus,
             minus: lanes * across.minus,
         },
@@ -236,35 +195,27 @@ pub fn offset_plane(plane: &mut [u8], size: FullSize, dx: f32, dy: f32)
 }
 
 // Refusal 7's condition, of two offsets.
+#[tactic(auto, unfolding(crate::specs::Outcome::wrong_offsets))]
 pub fn wrong_offsets(dx: f32, dy: f32) -> bool
     ensures { result ≡ wrong_offsets dx dy }
 {
-    if !binary32::is_finite(dx) {
-        return true;
-    }
-    !binary32::is_finite(dy)
+    !binary32::is_finite(dx) || !binary32::is_finite(dy)
 }
 
-// The first of refusals 1, 2 and 7 that fits, 0 where none does; of the picture's length.
-pub fn shift_refusal(picture: usize, w: u32, h: u32, dx: f32, dy: f32) -> u32
-    ensures { result ≡ first_of (shift_checks picture w h dx dy) }
+// The first of refusals 1, 2 and 7 that fits; of the picture's length.
+#[tactic(auto, unfolding(picture::specs::Refusal::number_of, picture::specs::Refusal::number, picture::specs::Refusal::first_of, picture::specs::Refusal::first_else))]
+pub fn check_shift(picture: usize, w: u32, h: u32, dx: f32, dy: f32) -> Result<(), Refusal>
+    ensures { number_of result ≡ first_of (shift_checks picture w h dx dy) }
 {
-    picture::picture_refusal(
-        picture,
-        w,
-        h,
-        picture::first(picture::NOT_FINITE, wrong_offsets(dx, dy), 0),
-    )
+    picture::check_picture(picture, w, h)?;
+    refuse_if(wrong_offsets(dx, dy), Refusal::NotFinite)
 }
 
-// Moves a picture of w by h pixels by dx and dy, rounded to whole pixels. Answers the refusal number.
-pub fn shift(picture: &mut [u8], w: u32, h: u32, dx: f32, dy: f32) -> u32
-    ensures { answered result picture.new ≡ shift_outcome picture.old w h dx dy }
+// Moves a picture of w by h pixels by dx and dy, rounded to whole pixels.
+pub fn shift(picture: &mut [u8], w: u32, h: u32, dx: f32, dy: f32) -> Result<(), Refusal>
+    ensures { answered (number_of result) picture.new ≡ shift_outcome picture.old w h dx dy }
 {
-    let refusal = shift_refusal(picture.len(), w, h, dx, dy);
-    if refusal != 0 {
-        return refusal;
-    }
+    check_shift(picture.len(), w, h, dx, dy)?;
     offset_pixels(picture, picture::full_size(w, h), dx, dy);
-    0
+    Ok(())
 }

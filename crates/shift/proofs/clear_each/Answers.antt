@@ -12,7 +12,7 @@ use Rattle.shift.proofs.clear_each.Goals.{After-clear_run-arg-1}
 pub loop-y-init : goal.loop-y-init
 loop-y-init c =
     let a = c.args in
-    (omega arith, refl, rw (zero-mul a.w) (below_none a.bytes.now (blank_columns a.w a.start a.n a.bytes.now) 0 (λ j l. absurd (omega arith))))
+    (refl, rw (zero-mul a.w) (below_none a.bytes.now (blank_columns a.w a.start a.n a.bytes.now) 0 (λ j l. absurd (omega arith))))
 
 -- a row's columns lie inside
 room : (c : After-clear_run-arg-1) → let a = c.args in c.loop-y.y * a.w + a.w ≤ length a.bytes.now
@@ -33,9 +33,8 @@ pub loop-y-preserved : goal.loop-y-preserved
 loop-y-preserved c =
     let a = c.args in (
       omega arith,
-      omega arith,
       c.clear_run.ensures
-          ∙ rw (c.loop-y.invariant.2, add-mul c.loop-y.y 1 a.w, one-mul a.w) (row_turn a.bytes.now a.w a.start a.n c.loop-y.y (omega arith)),
+          ∙ rw (c.loop-y.invariant.1, add-mul c.loop-y.y 1 a.w, one-mul a.w) (row_turn a.bytes.now a.w a.start a.n c.loop-y.y (omega arith)),
     )
 
 pub returns : goal.returns
@@ -43,4 +42,4 @@ unfolding columns_zeroed
 returns c =
     let a = c.args in
     let all : c.loop-y.y * a.w ≡ a.h * a.w = ap (λ (y : ℕ). y * a.w) (omega arith) in
-    c.loop-y.invariant.2 ∙ below_done a.bytes.now (blank_columns a.w a.start a.n a.bytes.now) (c.loop-y.y * a.w) (λ j l m. absurd (omega arith))
+    c.loop-y.invariant.1 ∙ below_done a.bytes.now (blank_columns a.w a.start a.n a.bytes.now) (c.loop-y.y * a.w) (λ j l m. absurd (omega arith))

@@ -1,23 +1,30 @@
 -- A refusal leaves the picture; where nothing is refused, the work has what it needs.
+use Rattle.std.proofs.lemmas.Result.{err_from_is_err_and}
+use Rattle.picture.specs.Refusal.{number_of}
 use Rattle.shift.proofs.Entry.{call_refused, sides_passed, call_ready, call_done}
 use Rattle.shift.proofs.shift.Goals as goal
 
-pub returns-then-refusal-ne0 : goal.returns-then-refusal-ne0
-returns-then-refusal-ne0 c =
+pub returns-in_err-check_shift : goal.returns-in_err-check_shift
+unfolding number_of
+returns-in_err-check_shift c =
     let a = c.args in
-    call_refused a.picture.now a.w a.h a.dx a.dy c.shift_refusal-refusal.result c.shift_refusal-refusal.ensures c.if-refusal-ne0.true
+    let p = err_from_is_err_and c.from_residual.result c.from_residual.ensures.1 in
+    rw (p.1, p.2) (call_refused a.picture.now a.w a.h a.dx a.dy _ c.in_err-check_shift.ensures)
 
 pub full_size-requires : goal.full_size-requires
+unfolding number_of
 full_size-requires c =
     let a = c.args in
-    sides_passed a.picture.now a.w a.h a.dx a.dy c.shift_refusal-refusal.result c.shift_refusal-refusal.ensures c.if-refusal-ne0.false
+    sides_passed a.picture.now a.w a.h a.dx a.dy c.in_ok-check_shift.ensures
 
 pub offset_pixels-requires : goal.offset_pixels-requires
+unfolding number_of
 offset_pixels-requires c =
     let a = c.args in
-    call_ready a.picture.now a.w a.h a.dx a.dy c.shift_refusal-refusal.result c.shift_refusal-refusal.ensures c.if-refusal-ne0.false c.full_size.result c.full_size.ensures
+    call_ready a.picture.now a.w a.h a.dx a.dy c.in_ok-check_shift.ensures c.full_size.result c.full_size.ensures
 
 pub returns : goal.returns
+unfolding number_of
 returns c =
     let a = c.args in
-    call_done a.picture.now a.w a.h a.dx a.dy c.shift_refusal-refusal.result c.shift_refusal-refusal.ensures c.if-refusal-ne0.false c.full_size.result c.full_size.ensures _ c.offset_pixels.ensures
+    call_done a.picture.now a.w a.h a.dx a.dy c.in_ok-check_shift.ensures c.full_size.result c.full_size.ensures _ c.offset_pixels.ensures
