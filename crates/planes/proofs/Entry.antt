@@ -10,12 +10,14 @@ use lib.Seq.{length-take-le}
 use borrow.Author.Tests.{ltb-false, le-ltb, eq-eqb}
 use Rattle.picture.specs.Planes.{bytes_of, laid}
 use Rattle.picture.specs.Sizes.{full_size, Pictured}
-use Rattle.picture.specs.Refusal.{first_else, first_of, wrong_sides, wrong_length, too_short}
+use Rattle.picture.specs.Refusal.{number, first_else, first_of, wrong_sides, wrong_length, too_short}
 use Rattle.picture.specs.Answer.{answered}
 use Rattle.picture.specs.declared.FullSize.{FullSize}
+use Rattle.picture.specs.declared.checks.Refusal.{Refusal}
 use Rattle.picture.proofs.Sizes.{whole}
 use Rattle.picture.proofs.Passed.{passed}
 use Rattle.picture.proofs.Answers.{refused, done}
+use Rattle.passes.proofs.Refused.{number_some}
 use Rattle.planes.specs.Planar.{Converts}
 use Rattle.planes.specs.Outcome.{convert_checks, converted_outcome}
 
@@ -31,20 +33,20 @@ pub nothing_refused : (src : List ℕ) (w h : ℕ) (dst : List ℕ) → wrong_si
 unfolding first_of first_else wrong_length too_short
 nothing_refused src w h dst s e l = rw (s, eq-eqb (length src) (bytes_of w h) e, le-ltb (length dst) (bytes_of w h) l)
 
-module _ (form : ℕ → ℕ → List ℕ → List ℕ) (src : List ℕ) (w h : ℕ) (dst : List ℕ) (r : ℕ) (e : r ≡ first_of (convert_checks (length src) w h (length dst))) where
-  pub call_refused : (r ≡ 0 → ⊥) → answered r dst ≡ converted_outcome form src w h dst
+module _ (form : ℕ → ℕ → List ℕ → List ℕ) (src : List ℕ) (w h : ℕ) (dst : List ℕ) where
+  pub call_refused : (r : Refusal) → number r ≡ first_of (convert_checks (length src) w h (length dst)) → answered (number r) dst ≡ converted_outcome form src w h dst
   unfolding converted_outcome
-  call_refused f = rw (sym e) (refused r dst _ f)
+  call_refused r e = rw (sym e) (refused (number r) dst _ (λ z. absurd (omega (arith, number_some r))))
 
-  module _ (z : r ≡ 0) where
+  module _ (e : 0 ≡ first_of (convert_checks (length src) w h (length dst))) where
     pub sides_passed : wrong_sides w h ≡ false
-    sides_passed = (passed _ _ (lit< tt) (sym z ∙ e)).0
+    sides_passed = (passed _ _ (lit< tt) e).0
 
     -- the source is whole, and no longer than the room for it
     fits : Pictured w h src × (bytes_of w h ≤ length dst)
     unfolding too_short
     fits =
-        let two = passed _ _ (lit< tt) (passed _ _ (lit< tt) (sym z ∙ e)).1 in
+        let two = passed _ _ (lit< tt) (passed _ _ (lit< tt) e).1 in
         (whole src w h sides_passed two.0, ltb-false _ _ (passed _ _ (lit< tt) two.1).0)
 
     pub enough : length src ≤ length dst
@@ -60,4 +62,4 @@ module _ (form : ℕ → ℕ → List ℕ → List ℕ) (src : List ℕ) (w h : 
       call_done out is kept =
           let new : out ≡ form w h src = rw s at is in
           let long : length src ≡ length (form w h src) = sym (length-take-le _ _ enough) ∙ sym kept ∙ ap length new in
-          ap (answered 0) (ap₂ (λ (new : List ℕ) (k : ℕ). new ++ drop k dst) new long) ∙ done _ dst _ (sym e ∙ z)
+          ap (answered 0) (ap₂ (λ (new : List ℕ) (k : ℕ). new ++ drop k dst) new long) ∙ done _ dst _ (sym e)

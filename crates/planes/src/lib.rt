@@ -2,7 +2,7 @@
 #![tactic(auto)]
 
 ghost use Rattle.std.specs.Prelude.{◌≡◌, ◌+◌, ◌*◌, ◌≤◌, ◌<◌, length};
-ghost use Rattle.picture.specs.Refusal.{first_of};
+ghost use Rattle.picture.specs.Refusal.{number_of, first_of};
 ghost use Rattle.picture.specs.Answer.{answered};
 ghost use Rattle.planes.specs.Planar.{planar, interleaved, Converts};
 ghost use Rattle.planes.specs.Places.{Carried, Carries, with_pixel, pixelwise, Counted, InPlanes};
@@ -10,7 +10,7 @@ ghost use Rattle.planes.specs.Outcome.{convert_checks, to_planes_outcome, from_p
 
 use halves::apart::take_apart;
 use halves::together::put_together;
-use picture::FullSize;
+use picture::{FullSize, Refusal, refuse_if};
 use pixels::copy_run;
 
 // How far apart two channels of a pixel stand, and one channel of two pixels.
@@ -18,6 +18,24 @@ use pixels::copy_run;
 struct Steps {
     channel: usize,
     pixel: usize,
+}
+
+impl Steps {
+    // Of a picture, ..
+    const PICTURE: Steps = Steps {
+        channel: 1,
+        pixel: 4,
+    };
+
+    // .. and of four planes of n bytes.
+    fn planes(n: usize) -> Steps
+        ensures { result ≡ record { channel = n; pixel = 1 } }
+    {
+        Steps {
+            channel: n,
+            pixel: 1,
+        }
+    }
 }
 
 // Carries one pixel: its channels are read s bytes apart from p on, and written d bytes apart from q on.
@@ -38,10 +56,8 @@ fn carry(src: &[u8], s: Steps, dst: &mut [u8], d: Steps, from: usize, to: usize)
     requires { Carries (pixelwise s.channel s.pixel) (pixelwise d.channel d.pixel) from to src.now dst.old }
     ensures { Carried (pixelwise s.channel s.pixel) (pixelwise d.channel d.pixel) src.now dst.new (4 * to) }
 {
-    let mut i = from;
-    while i < to {
+    for i in from..to {
         carry_pixel(src, i * s.pixel, s.channel, dst, i * d.pixel, d.channel);
-        i += 1;
     }
 }
 
@@ -70,26 +86,12 @@ fn split_blocks(src: &[u8], dst: &mut [u8], parts: &mut [u8], n: usize) -> usize
     if n < 64 {
         return 0;
     }
-    carry(
-        src,
-        Steps {
-            channel: 1,
-            pixel: 4,
-        },
-        dst,
-        Steps {
-            channel: n,
-            pixel: 1,
-        },
-        0,
-        64,
-    );
-    let mut m = 48;
-    while m + 80 <= n {
-        split_block(src, dst, parts, n, m);
-        m += 64;
+    carry(src, Steps::PICTURE, dst, Steps::planes(n), 0, 64);
+    let blocks = n / 64 - 1;
+    for block in 0..blocks {
+        split_block(src, dst, parts, n, 48 + 64 * block);
     }
-    m
+    48 + 64 * blocks
 }
 
 // Writes the planes of a picture: most of it by blocks, and the pixels that are left one by one.
@@ -100,20 +102,7 @@ pub fn split(src: &[u8], dst: &mut [u8], size: FullSize)
     let mut parts = [0u8; 320];
     let n = size.bytes() / 4;
     let m = split_blocks(src, dst, &mut parts, n);
-    carry(
-        src,
-        Steps {
-            channel: 1,
-            pixel: 4,
-        },
-        dst,
-        Steps {
-            channel: n,
-            pixel: 1,
-        },
-        m,
-        n,
-    );
+    carry(src, Steps::PICTURE, dst, Steps::planes(n), m, n);
 }
 
 // Puts a picture together by blocks; answers up to where it is.
@@ -121,12 +110,11 @@ fn join_blocks(src: &[u8], dst: &mut [u8], n: usize) -> usize
     requires { Counted n src.now dst.old }
     ensures { (result ≤ n) × Carried (pixelwise n 1) (pixelwise 1 4) src.now dst.new (4 * result) }
 {
-    let mut m = 0;
-    while m + 64 <= n {
-        put_together(dst, src, n, m);
-        m += 64;
+    let blocks = n / 64;
+    for block in 0..blocks {
+        put_together(dst, src, n, 64 * block);
     }
-    m
+    64 * blocks
 }
 
 // Writes the picture of four planes: most of it by blocks, and the pixels that are left one by one.
@@ -136,54 +124,34 @@ pub fn join(src: &[u8], dst: &mut [u8], size: FullSize)
 {
     let n = size.bytes() / 4;
     let m = join_blocks(src, dst, n);
-    carry(
-        src,
-        Steps {
-            channel: n,
-            pixel: 1,
-        },
-        dst,
-        Steps {
-            channel: 1,
-            pixel: 4,
-        },
-        m,
-        n,
-    );
+    carry(src, Steps::planes(n), dst, Steps::PICTURE, m, n);
 }
 
-// The first of refusals 1, 2 and 3 that fits, 0 where none does; of the lengths.
-fn convert_refusal(src: usize, w: u32, h: u32, dst: usize) -> u32
-    ensures { result ≡ first_of (convert_checks src w h dst) }
+// The first of refusals 1, 2 and 3 that fits; of the lengths.
+#[tactic(auto, unfolding(picture::specs::Refusal::number_of, picture::specs::Refusal::number, picture::specs::Refusal::first_of, picture::specs::Refusal::first_else))]
+fn check_convert(src: usize, w: u32, h: u32, dst: usize) -> Result<(), Refusal>
+    ensures { number_of result ≡ first_of (convert_checks src w h dst) }
 {
-    let short = picture::too_short(dst, w, h);
-    picture::picture_refusal(src, w, h, picture::first(picture::TOO_SHORT, short, 0))
+    picture::check_picture(src, w, h)?;
+    refuse_if(picture::too_short(dst, w, h), Refusal::TooShort)
 }
 
 // The planes of a picture of w by h pixels, into the first 4wh bytes of `dst`.
-pub fn to_planes(src: &[u8], w: u32, h: u32, dst: &mut [u8]) -> u32
-    ensures { answered result dst.new ≡ to_planes_outcome src.now w h dst.old }
+pub fn to_planes(src: &[u8], w: u32, h: u32, dst: &mut [u8]) -> Result<(), Refusal>
+    ensures { answered (number_of result) dst.new ≡ to_planes_outcome src.now w h dst.old }
 {
-    let r = convert_refusal(src.len(), w, h, dst.len());
-    if r != 0 {
-        return r;
-    }
-    let size = picture::full_size(w, h);
+    check_convert(src.len(), w, h, dst.len())?;
     let k = src.len();
-    split(src, &mut dst[..k], size);
-    0
+    split(src, &mut dst[..k], picture::full_size(w, h));
+    Ok(())
 }
 
 // The picture of four planes of w by h, into the first 4wh bytes of `dst`.
-pub fn from_planes(src: &[u8], w: u32, h: u32, dst: &mut [u8]) -> u32
-    ensures { answered result dst.new ≡ from_planes_outcome src.now w h dst.old }
+pub fn from_planes(src: &[u8], w: u32, h: u32, dst: &mut [u8]) -> Result<(), Refusal>
+    ensures { answered (number_of result) dst.new ≡ from_planes_outcome src.now w h dst.old }
 {
-    let r = convert_refusal(src.len(), w, h, dst.len());
-    if r != 0 {
-        return r;
-    }
-    let size = picture::full_size(w, h);
+    check_convert(src.len(), w, h, dst.len())?;
     let k = src.len();
-    join(src, &mut dst[..k], size);
-    0
+    join(src, &mut dst[..k], picture::full_size(w, h));
+    Ok(())
 }

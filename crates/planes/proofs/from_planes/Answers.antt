@@ -1,36 +1,45 @@
 -- A refusal leaves the bytes; where nothing is refused, the work has what it needs.
 use mathlib.Core.Path.{sym}
 use lib.Seq.{length-take-le}
+use Rattle.std.proofs.lemmas.Result.{err_from_is_err_and}
+use Rattle.picture.specs.Refusal.{number_of}
 use Rattle.planes.specs.Planar.{interleaved}
 use Rattle.planes.proofs.Entry.{call_refused, sides_passed, enough, call_ready, call_done}
 use Rattle.planes.proofs.from_planes.Goals as goal
 
-pub returns-then-r-ne0 : goal.returns-then-r-ne0
-returns-then-r-ne0 c =
+pub returns-in_err-check_convert : goal.returns-in_err-check_convert
+unfolding number_of
+returns-in_err-check_convert c =
     let a = c.args in
-    call_refused interleaved a.src.now a.w a.h a.dst.now _ c.convert_refusal-r.ensures c.if-r-ne0.true
+    let p = err_from_is_err_and c.from_residual.result c.from_residual.ensures.1 in
+    rw (p.1, p.2) (call_refused interleaved a.src.now a.w a.h a.dst.now _ c.in_err-check_convert.ensures)
 
-pub full_size-size-requires : goal.full_size-size-requires
-full_size-size-requires c =
+pub full_size-requires : goal.full_size-requires
+unfolding number_of
+full_size-requires c =
     let a = c.args in
-    sides_passed interleaved a.src.now a.w a.h a.dst.now _ c.convert_refusal-r.ensures c.if-r-ne0.false
+    sides_passed interleaved a.src.now a.w a.h a.dst.now c.in_ok-check_convert.ensures
 
 pub slice_bounds-join-end : goal.slice_bounds-join-end
+unfolding number_of
 slice_bounds-join-end c =
     let a = c.args in
-    enough interleaved a.src.now a.w a.h a.dst.now _ c.convert_refusal-r.ensures c.if-r-ne0.false
+    enough interleaved a.src.now a.w a.h a.dst.now c.in_ok-check_convert.ensures
 
 pub slice_bounds-join-end-2 : goal.slice_bounds-join-end-2
+unfolding number_of
 slice_bounds-join-end-2 c =
     let a = c.args in
-    sym (length-take-le _ _ (enough interleaved a.src.now a.w a.h a.dst.now _ c.convert_refusal-r.ensures c.if-r-ne0.false))
+    sym (length-take-le _ _ (enough interleaved a.src.now a.w a.h a.dst.now c.in_ok-check_convert.ensures))
 
 pub join-requires : goal.join-requires
+unfolding number_of
 join-requires c =
     let a = c.args in
-    call_ready interleaved a.src.now a.w a.h a.dst.now _ c.convert_refusal-r.ensures c.if-r-ne0.false _ c.full_size-size.ensures
+    call_ready interleaved a.src.now a.w a.h a.dst.now c.in_ok-check_convert.ensures _ c.full_size.ensures
 
 pub returns : goal.returns
+unfolding number_of
 returns c =
     let a = c.args in
-    call_done interleaved a.src.now a.w a.h a.dst.now _ c.convert_refusal-r.ensures c.if-r-ne0.false _ c.full_size-size.ensures _ c.join.ensures c.join.auto.dst
+    call_done interleaved a.src.now a.w a.h a.dst.now c.in_ok-check_convert.ensures _ c.full_size.ensures _ c.join.ensures c.join.auto.dst
