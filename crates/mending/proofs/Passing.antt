@@ -53,13 +53,16 @@ unfolding laid_entries
 nothing_failing p w h list exact z =
     rw (← mended_still w h p exact (none_many (exceeds_at p) (w * h) z), none_listed p (w * h) z, z)
 
+-- a picture has a pixel for each four bytes
+pub a_quarter : (n : ℕ) → 4 * n / 4 ≡ n
+a_quarter n = omega arith
+
 -- where the count of a whole picture's pixels is 0, the room is enough, and all is as it was
 pub nothing_counted : (p : List ℕ) (w h : ℕ) (list : List (List ℕ)) → Pictured w h p → how_many (exceeds_at p) (4 * (w * h) / 4) ≡ 0 →
     settled (first_of (room_checks p w h (length list))) (mend_left p list 0) (mend_done p w h list) ≡ answered 0 (mend_left p list 0)
 unfolding settled first_of first_else
 nothing_counted p w h list pictured z =
-    let all : 4 * (w * h) / 4 ≡ w * h = omega arith in
-    let none : failing p w h ≡ 0 = ap (how_many (exceeds_at p)) (sym all) ∙ z in
+    let none : failing p w h ≡ 0 = ap (how_many (exceeds_at p)) (sym (a_quarter (w * h))) ∙ z in
     let roomy : ltb (length list) (failing p w h) ≡ false = rw none (le-ltb _ _ (omega arith)) in
     rw roomy (ap (answered 0) (sym (nothing_failing p w h list pictured.exact none)))
 

@@ -1,14 +1,11 @@
 -- What the entry `mend` answers and leaves behind, for any input.
-use Rattle.std.specs.Prelude.{List, [], ◌∷◌, ◌++◌, ℕ, ◌*◌, ltb, length}
-use Rattle.picture.specs.Refusal.{Check, check, first_of, picture_checks}
+use Rattle.std.specs.Prelude.{Result, Ok, Err, List, [], ◌∷◌, ◌++◌, ℕ, ◌*◌, ltb, length}
+use Rattle.picture.specs.Refusal.{number, Check, check, first_of, picture_checks}
+use Rattle.picture.specs.declared.checks.Refusal.{Refusal}
 use Rattle.picture.specs.Answer.{Answer, answered, settled}
 use Rattle.pixels.specs.Channels.{exceeds_at}
 use Rattle.counting.specs.Counts.{how_many}
 use Rattle.mending.specs.Changes.{mended, changes_below, laid_entries}
-use Rattle.mending.specs.declared.mender.MendRefusal.{MendRefusal}
-use Rattle.mending.specs.declared.mender.MendRefusal.TheVariants.{WrongSides, WrongLength, ListFull}
-use Rattle.mending.specs.declared.mender.Mended.{Mended}
-use Rattle.mending.specs.declared.mender.Mended.TheVariants.{Refused, Count}
 
 -- what `mend` leaves: the lent picture and the lent list, and the count that it answers
 pub record MendLeft : Type 0 where
@@ -19,16 +16,10 @@ pub record MendLeft : Type 0 where
 abbrev pub mend_left : List ℕ → List (List ℕ) → ℕ → MendLeft
 mend_left picture list count = record { picture = picture; list = list; count = count }
 
--- the number of each refusal of `mend`
-abbrev pub mend_number : MendRefusal → ℕ
-mend_number WrongSides = 1
-mend_number WrongLength = 2
-mend_number ListFull = 17
-
 -- the number and the count of each case of the answer, with what is left; a refused count is 0
-abbrev pub mend_answer : Mended → List ℕ → List (List ℕ) → Answer MendLeft
-mend_answer (Refused r) picture list = answered (mend_number r) (mend_left picture list 0)
-mend_answer (Count n) picture list = answered 0 (mend_left picture list n)
+abbrev pub mend_answer : Result ℕ Refusal → List ℕ → List (List ℕ) → Answer MendLeft
+mend_answer (Err r) picture list = answered (number r) (mend_left picture list 0)
+mend_answer (Ok n) picture list = answered 0 (mend_left picture list n)
 
 -- the count: how many pixels of the input fail the check
 abbrev pub failing : List ℕ → ℕ → ℕ → ℕ

@@ -1,5 +1,5 @@
 // The mender: each channel above its alpha is lowered to it, and each pixel changed is listed.
-ghost use Rattle.std.specs.Prelude.{◌≡◌, cond, ◌+◌, ◌*◌, ◌≤◌, ◌<◌, min, length, set};
+ghost use Rattle.std.specs.Prelude.{◌≡◌, cond, ◌+◌, ◌*◌, ◌≤◌, ◌<◌, length, set};
 ghost use Rattle.picture.specs.Answer.{settled};
 ghost use Rattle.picture.specs.Refusal.{first_of};
 ghost use Rattle.picture.specs.Sizes.{Pictured};
@@ -7,55 +7,20 @@ ghost use Rattle.pixels.specs.Pixels.{pixel_at, with_pixel};
 ghost use Rattle.pixels.specs.Channels.{exceeds_at};
 ghost use Rattle.counting.specs.Counts.{how_many};
 ghost use Rattle.mending.specs.Changes.{mended, lowered, change, changes_below, laid_entries};
-ghost use Rattle.mending.specs.Outcome.{mend_left, mend_number, mend_answer, room_checks, mend_done, mend_outcome};
+ghost use Rattle.mending.specs.Outcome.{mend_left, mend_answer, room_checks, mend_done, mend_outcome};
 
 use counting::counter::count_exceeding;
-use picture::{FullSize, Pixel};
+use picture::{FullSize, Pixel, Refusal};
 use pixels::{exceeds, pixel_at, set_pixel};
-
-// The refusals that the mender gives.
-#[derive(Clone, Copy)]
-pub enum MendRefusal {
-    WrongSides,
-    WrongLength,
-    ListFull,
-}
-
-impl MendRefusal {
-    // The refusal's number.
-    pub fn number(self) -> u32
-        ensures { result ≡ mend_number self }
-    {
-        match self {
-            MendRefusal::WrongSides => picture::WRONG_SIDES,
-            MendRefusal::WrongLength => picture::WRONG_LENGTH,
-            MendRefusal::ListFull => picture::LIST_FULL,
-        }
-    }
-}
-
-// What the mender answers: how many pixels it changed.
-#[derive(Clone, Copy)]
-pub enum Mended {
-    Refused(MendRefusal),
-    Count(usize),
-}
-
-// The lesser of two bytes.
-fn lesser(a: u8, b: u8) -> u8
-    ensures { result ≡ min a b }
-{
-    if a < b { a } else { b }
-}
 
 // The pixel with each channel above alpha lowered to it.
 fn lower(p: Pixel) -> Pixel
     ensures { result ≡ lowered p }
 {
     Pixel {
-        r: lesser(p.r, p.a),
-        g: lesser(p.g, p.a),
-        b: lesser(p.b, p.a),
+        r: p.r.min(p.a),
+        g: p.g.min(p.a),
+        b: p.b.min(p.a),
         a: p.a,
     }
 }
@@ -87,39 +52,31 @@ fn mend_pixels(picture: &mut [u8], size: FullSize, list: &mut [[u32; 2]])
 {
     let n = size.bytes() / 4;
     let mut k = 0;
-    let mut i = 0;
-    while i < n {
+    for i in 0..n {
         k = mend_one(picture, list, i, k);
-        i += 1;
     }
 }
 
 // Mends a whole picture. One that passes is mended as it stands, after the one pass that counts.
-#[tactic(auto, using(crate::proofs::Passing::nothing_counted))]
-fn mend_whole(picture: &mut [u8], size: FullSize, list: &mut [[u32; 2]]) -> Mended
+#[tactic(auto, unfolding(picture::specs::Refusal::number, picture::specs::Refusal::first_of, picture::specs::Refusal::first_else, picture::specs::Answer::settled), using(crate::proofs::Passing::nothing_counted, crate::proofs::Passing::a_quarter))]
+fn mend_whole(picture: &mut [u8], size: FullSize, list: &mut [[u32; 2]]) -> Result<usize, Refusal>
     requires { Pictured size.w size.h picture.old }
     ensures { mend_answer result picture.new list.new ≡ settled (first_of (room_checks picture.old size.w size.h (length list.old))) (mend_left picture.old list.old 0) (mend_done picture.old size.w size.h list.old) }
 {
     let count = count_exceeding(picture, size.bytes() / 4);
-    if list.len() < count {
-        return Mended::Refused(MendRefusal::ListFull);
-    }
+    picture::refuse_if(list.len() < count, Refusal::ListFull)?;
     if count == 0 {
-        return Mended::Count(0);
+        return Ok(0);
     }
     mend_pixels(picture, size, list);
-    Mended::Count(count)
+    Ok(count)
 }
 
-// Lowers each r, g or b above its alpha to that alpha, and lists the place and the old pixel of each pixel changed. It gives refusals 1, 2 and 17.
-pub fn mend(picture: &mut [u8], w: u32, h: u32, list: &mut [[u32; 2]]) -> Mended
+// Lowers each r, g or b above its alpha to that alpha, lists the place and the old pixel of each pixel changed, and answers how many those are. It gives refusals 1, 2 and 17.
+#[tactic(auto, unfolding(picture::specs::Refusal::number_of, picture::specs::Refusal::first_of, picture::specs::Refusal::first_else, picture::specs::Answer::settled, crate::specs::Outcome::mend_outcome), using(grading::proofs::Refused::number_some, picture::proofs::Sizes::whole))]
+pub fn mend(picture: &mut [u8], w: u32, h: u32, list: &mut [[u32; 2]]) -> Result<usize, Refusal>
     ensures { mend_answer result picture.new list.new ≡ mend_outcome picture.old w h list.old }
 {
-    if picture::wrong_sides(w, h) {
-        return Mended::Refused(MendRefusal::WrongSides);
-    }
-    if picture::wrong_length(picture.len(), w, h) {
-        return Mended::Refused(MendRefusal::WrongLength);
-    }
+    picture::check_picture(picture.len(), w, h)?;
     mend_whole(picture, picture::full_size(w, h), list)
 }

@@ -11,18 +11,19 @@ use borrow.Table.Referent.{f_int}
 use denote.Triple.Clauses.{AtExit}
 use lib.ListN.{length, take}
 use mir.Syntax.{w8}
+use Rattle.std.specs.Prelude.{Option, None, Result, Ok}
 use Rattle.picture.specs.Answer.{Answer, answered}
+use Rattle.picture.specs.Refusal.{number_of}
+use Rattle.picture.specs.declared.checks.Refusal.{Refusal}
 use Rattle.pixels.specs.Channels.{exceeds_at}
 use Rattle.pixels.proofs.Painting.{at}
-use Rattle.grading.specs.declared.premultiplied.Checked.{Checked}
-use Rattle.grading.specs.declared.premultiplied.Checked.TheVariants.{Fits}
+use Rattle.grading.specs.declared.premultiplied.Place.{Place}
+use Rattle.grading.proofs.Refused.{number_of_once}
 use Rattle.grading.proofs.Injective.{finding_injective}
 use Rattle.grading.proofs.premultiplied.check.Reads as check
 use Rattle.grading.proofs.premultiplied.check.Kinds as check-kinds
 use Rattle.counting.specs.Counts.{how_many}
 use Rattle.mending.specs.Outcome.{MendLeft, mend_left}
-use Rattle.mending.specs.declared.mender.Mended.{Mended}
-use Rattle.mending.specs.declared.mender.Mended.TheVariants.{Count}
 use Rattle.mending.proofs.Lowered.{mended_at, length_mended}
 use Rattle.rebuilding.proofs.Taken.{MendAccepted, mend_accepted, again, old_again, passes_check}
 use Rattle.mending.proofs.Determined.{mend_once}
@@ -41,7 +42,7 @@ pub record MendCall : Type 1 where
   pub args : Dens κs mend-kinds.ps
   pub count : ℕ
   pub left : AtExit (ended_of 2 mend-kinds.ps mend-kinds.r) κs
-  pub meets : mend.Post κs args (Count count) left
+  pub meets : mend.Post κs args (Ok count) left
 
 abbrev pub given : MendCall → List ℕ
 given m = m.args.0.now
@@ -86,23 +87,24 @@ only_lowered m =
     }
 
 -- the check of the mended picture, of the same sides, finds nothing
-pub passes : (m : MendCall) (κs : Lfts 1) (a : Dens κs check-kinds.ps) (r : Checked) (x : AtExit (ended_of 1 check-kinds.ps check-kinds.r) κs) → check.Post κs a r x →
-    a.0.now ≡ picture m → a.1.0 ≡ width m → a.1.1.0 ≡ height m → r ≡ Fits
-passes m κs a r x post p w h = finding_injective r Fits (post ∙ rw (p, w, h) (passes_check (done m)))
+pub passes : (m : MendCall) (κs : Lfts 1) (a : Dens κs check-kinds.ps) (r : Result (Option Place) Refusal) (x : AtExit (ended_of 1 check-kinds.ps check-kinds.r) κs) → check.Post κs a r x →
+    a.0.now ≡ picture m → a.1.0 ≡ width m → a.1.1.0 ≡ height m → r ≡ Ok None
+passes m κs a r x post p w h = finding_injective r (Ok None) (post ∙ rw (p, w, h) (passes_check (done m)))
 
 -- mended again, with the same sides and any list, also one of no entries: count 0, and neither picture nor list changes
-pub twice : (m : MendCall) (κs : Lfts 2) (a : Dens κs mend-kinds.ps) (r : Mended) (x : AtExit (ended_of 2 mend-kinds.ps mend-kinds.r) κs) → mend.Post κs a r x →
+pub twice : (m : MendCall) (κs : Lfts 2) (a : Dens κs mend-kinds.ps) (r : Result ℕ Refusal) (x : AtExit (ended_of 2 mend-kinds.ps mend-kinds.r) κs) → mend.Post κs a r x →
     a.0.now ≡ picture m → a.1.0 ≡ width m → a.1.1.0 ≡ height m →
-    (r ≡ Count 0) × (x.0.now ≡ a.0.now) × (x.1.1.1.0.now ≡ a.1.1.1.0.now)
+    (r ≡ Ok 0) × (x.0.now ≡ a.0.now) × (x.1.1.1.0.now ≡ a.1.1.1.0.now)
 twice m κs a r x post p w h =
-    let same = mend_once r (Count 0) x.0.now (picture m) x.1.1.1.0.now a.1.1.1.0.now (post ∙ rw (p, w, h) (again (done m) a.1.1.1.0.now)) in
+    let same = mend_once r (Ok 0) x.0.now (picture m) x.1.1.1.0.now a.1.1.1.0.now (post ∙ rw (p, w, h) (again (done m) a.1.1.1.0.now)) in
     (same.0, same.1 ∙ sym p, same.2)
 
--- rebuilt from the mended picture and the first `count` entries of its list: 0, and the old picture
+-- rebuilt from the mended picture and the first `count` entries of its list: done, with the old picture
 pub rebuilds : (m : MendCall) → LentBytes (given m) →
-    (κs : Lfts 2) (a : Dens κs rebuild-kinds.ps) (r : ℕ) (x : AtExit (ended_of 2 rebuild-kinds.ps rebuild-kinds.r) κs) → rebuild.Post κs a r x →
+    (κs : Lfts 2) (a : Dens κs rebuild-kinds.ps) (r : Result Unit Refusal) (x : AtExit (ended_of 2 rebuild-kinds.ps rebuild-kinds.r) κs) → rebuild.Post κs a r x →
     a.0.now ≡ picture m → a.1.0 ≡ width m → a.1.1.0 ≡ height m → a.1.1.1.0.now ≡ take m.count (changes m) →
-    (r ≡ 0) × (x.0.now ≡ given m)
+    (r ≡ Ok tt) × (x.0.now ≡ given m)
+unfolding number_of
 rebuilds m bytes κs a r x post p w h l =
-    let e : answered r x.0.now ≡ answered 0 (given m) = post ∙ rw (p, w, h, l) (old_again (done m) (λ i. omega (arith, (bytes i).fits))) in
-    (ap (λ (o : Answer (List ℕ)). o.number) e, ap (λ (o : Answer (List ℕ)). o.left) e)
+    let e : answered (number_of r) x.0.now ≡ answered 0 (given m) = post ∙ rw (p, w, h, l) (old_again (done m) (λ i. omega (arith, (bytes i).fits))) in
+    (number_of_once r (Ok tt) (ap (λ (o : Answer (List ℕ)). o.number) e), ap (λ (o : Answer (List ℕ)). o.left) e)

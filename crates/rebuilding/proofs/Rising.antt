@@ -5,7 +5,7 @@ use mathlib.Core.List.{List, [], ◌∷◌, ◌++◌, append-nil}
 use Prim.Native.Nat.{ℕ, zero, suc, ◌+◌, ◌≤◌, ◌<◌}
 use native.Mathlib.Numerals.{add-one}
 use native.Mathlib.Omega.{arith}
-use borrow.Author.Tests.{ltb-true, leb-true, le-leb, lt-ltb}
+use borrow.Author.Tests.{ltb-true, leb-true, le-leb, lt-ltb, not-false}
 use lib.Dec.{ltb, leb}
 use lib.ListN.{length, get_or, drop}
 use lib.Seq.{drop-cons}
@@ -14,11 +14,17 @@ use Rattle.pixels.specs.Pixels.{pixel_at}
 use Rattle.pixels.specs.Channels.{exceeds_at}
 use Rattle.mending.specs.Changes.{change, changes_below}
 use Rattle.rebuilding.specs.Restored.{change_place, rising}
+use Rattle.rebuilding.specs.Outcome.{wrong_list}
 
 -- two tests that both hold
 both : (a b : Bool) → (a && b) ≡ true → (a ≡ true) × (b ≡ true)
 both true b h = (refl, h)
 both false b h = absurd (true≢false (sym h))
+
+-- what check 18 lets through
+pub right_rises : (list : List (List ℕ)) (area : ℕ) → wrong_list list area ≡ false → rising 0 area list ≡ true
+unfolding wrong_list
+right_rises list area e = not-false _ e
 
 -- the first entry's place, and the others
 pub rising_first : (next area : ℕ) (e : List ℕ) (es : List (List ℕ)) → rising next area (e ∷ es) ≡ true →
