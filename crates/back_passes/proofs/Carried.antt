@@ -11,11 +11,11 @@ use Rattle.picture.specs.declared.EdgeMode.{EdgeMode}
 use Rattle.binary32.specs.Taps.{sum_to}
 use Rattle.share_laws.proofs.Sums.{sum_same, sum_most}
 use Rattle.share_laws.proofs.Flat.{halve_most, double_most, convolve_most}
-use Rattle.back_passes.specs.Worth.{worth_of, total, Gained, NextNonzero}
+use Rattle.back_passes.specs.Worth.{worth_of, total, Gained}
 use Rattle.back_passes.specs.Steps.{exact_pass, gain, LightKernel}
 use Rattle.back_passes.specs.declared.back.PassKind.{PassKind}
 use Rattle.back_passes.specs.declared.back.PassKind.TheVariants.{Halve, Double, Convolve}
-use Rattle.back_passes.proofs.Worth.{sum_grows, sum_skip}
+use Rattle.back_passes.proofs.Worth.{sum_grows}
 
 -- a pass of a line of at most k is at most its gain times k
 pub gain_most : (kind : PassKind) (mode : EdgeMode) (ms : List ℕ) → LightKernel ms → (l : Line) (k : ℕ) → ((i : ℕ) → l i ≤ k) → (s x : ℕ) → exact_pass kind mode ms s l x ≤ gain kind * k
@@ -28,20 +28,23 @@ module _ (kind : PassKind) (mode : EdgeMode) (ms : List ℕ) (s : ℕ) (outputs 
   abbrev pub carried_to : Line → ℕ → ℕ
   carried_to l x = sum_to (λ k. get_or outputs k 0 * exact_pass kind mode ms s l k) x
 
-  pub carried_none : (row : List ℕ) (x : ℕ) → NextNonzero outputs 0 x → Gained row row (λ l. carried_to l x)
+  pub carried_none : (row : List ℕ) → Gained row row (λ l. carried_to l 0)
   unfolding sum_to
-  carried_none row x h l =
-      omega (arith, sum_skip (λ k. get_or outputs k 0 * exact_pass kind mode ms s l k) 0 x h.low (λ k a b. ap (λ (m : ℕ). m * exact_pass kind mode ms s l k) (h.blank k a b) ∙ zero-mul (exact_pass kind mode ms s l k)))
+  carried_none row l = omega arith
 
-  -- one output more, and those without worth after it
-  pub carried_more : (old row row' : List ℕ) (x y : ℕ) → Gained old row (λ l. carried_to l x) → Gained row row' (λ l. get_or outputs x 0 * exact_pass kind mode ms s l x) → NextNonzero outputs (x + 1) y →
-      Gained old row' (λ l. carried_to l y)
+  -- one output more, ..
+  pub carried_more : (old row row' : List ℕ) (x : ℕ) → Gained old row (λ l. carried_to l x) → Gained row row' (λ l. get_or outputs x 0 * exact_pass kind mode ms s l x) → Gained old row' (λ l. carried_to l (x + 1))
   unfolding sum_to
-  carried_more old row row' x y h g z l =
+  carried_more old row row' x h g l =
       let f : ℕ → ℕ = λ k. get_or outputs k 0 * exact_pass kind mode ms s l k in
-      let skipped = sum_skip f (x + 1) y z.low (λ k a b. ap (λ (m : ℕ). m * exact_pass kind mode ms s l k) (z.blank k a b) ∙ zero-mul (exact_pass kind mode ms s l k)) in
       let step : sum_to f (x + 1) ≡ sum_to f x + f x = rw (add-one) refl in
-      omega (arith, h l, g l, skipped, step)
+      omega (arith, h l, g l, step)
+
+  -- .. which adds nothing where it is worth nothing
+  pub carried_blank : (old row : List ℕ) (x : ℕ) → Gained old row (λ l. carried_to l x) → get_or outputs x 0 ≡ 0 → Gained old row (λ l. carried_to l (x + 1))
+  carried_blank old row x h z =
+      carried_more old row row x h
+      (λ l. let none : get_or outputs x 0 * exact_pass kind mode ms s l x ≡ 0 = ap (λ (m : ℕ). m * exact_pass kind mode ms s l x) z ∙ zero-mul (exact_pass kind mode ms s l x) in omega (arith, none))
 
   -- there is room for one more
   pub carried_room : LightKernel ms → (old row : List ℕ) (x : ℕ) → x < length outputs → Gained old row (λ l. carried_to l x) →

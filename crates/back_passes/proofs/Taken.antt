@@ -1,4 +1,5 @@
 -- Laws of taps: each pass is one, and taps of a line of ones come to no more than their weights.
+use Rattle.std.proofs.Common.{Option, Some, None}
 use mathlib.Core.Path.{◌≡◌, refl, ◌∙◌, ap, sym}
 use mathlib.Core.List.{List, [], ◌∷◌}
 use Prim.Native.Nat.{ℕ, suc, ◌+◌, ◌*◌, ◌/◌, ◌%◌, ◌≤◌, ◌<◌}
@@ -10,8 +11,6 @@ use lib.ListN.{length, get_or}
 use Rattle.picture.specs.Planes.{Line}
 use Rattle.picture.specs.declared.EdgeMode.{EdgeMode}
 use Rattle.picture.proofs.Sizes.{room_is}
-use Rattle.edges.specs.declared.At.{At}
-use Rattle.edges.specs.declared.At.TheVariants.{Inside, Outside}
 use Rattle.edges.specs.Edges.{place, value_at, sample}
 use Rattle.edges.specs.Whole.{place_of}
 use Rattle.edges.proofs.Whole.{from_zero, place_is}
@@ -26,13 +25,18 @@ use Rattle.back_passes.specs.Steps.{taps_to, tap_sum, gain, TapsReady, OutputRea
 use Rattle.back_passes.specs.declared.back.PassKind.{PassKind}
 use Rattle.back_passes.proofs.Worth.{sum_grows}
 
+-- what is no element is none
+pub none_left : (o : Option ℕ) → ((i : ℕ) → o ≡ Some i → ⊥) → o ≡ None
+none_left (Some i) h = absurd (h i refl)
+none_left None h = refl
+
 module _ (mode : EdgeMode) (s : ℕ) where
   -- an element that the coordinate reads, or none
-  pub tap_in : (c d more i : ℕ) (row row' : List ℕ) → place mode s c d ≡ Inside i → Gained row row' (λ l. more * l i) → Gained row row' (λ l. more * sample mode s l c d)
+  pub tap_in : (c d more i : ℕ) (row row' : List ℕ) → place mode s c d ≡ Some i → Gained row row' (λ l. more * l i) → Gained row row' (λ l. more * sample mode s l c d)
   unfolding sample
   tap_in c d more i row row' e h l = rw e (h l)
 
-  pub tap_out : (c d more : ℕ) (row : List ℕ) → place mode s c d ≡ Outside → Gained row row (λ l. more * sample mode s l c d)
+  pub tap_out : (c d more : ℕ) (row : List ℕ) → place mode s c d ≡ None → Gained row row (λ l. more * sample mode s l c d)
   unfolding sample
   tap_out c d more row e l = rw e (omega (arith, mul-zero more))
 
@@ -69,7 +73,7 @@ module _ (mode : EdgeMode) (s : ℕ) (low : 0 < s) (l : Line) where
   lower : (c : ℕ) → sample mode s l (c + 1) 1 ≡ sample mode s l c 0
   unfolding sample
   lower c =
-      ap (λ (a : At). value_at a l)
+      ap (λ (a : Option ℕ). value_at a l)
       (place_is mode s (c + 1) 1 low ∙ ap (place_of mode s) (from_zero (c + 1) 1 c (omega arith) ∙ sym (from_zero c 0 c (omega arith))) ∙ sym (place_is mode s c 0 low))
 
   pub halve_taps : (x : ℕ) → exact_halve mode s l x ≡ tap_sum mode (1 ∷ 3 ∷ 3 ∷ 1 ∷ []) s l (2 * x) 1

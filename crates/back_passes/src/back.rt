@@ -3,7 +3,6 @@ ghost use Rattle.std.specs.Prelude.{◌*◌, length};
 ghost use Rattle.back_passes.specs.Worth.{worth_of, Gained};
 ghost use Rattle.back_passes.specs.Steps.{exact_pass, OutputReady, PassReady};
 
-use crate::rows::next_nonzero;
 use crate::taps::carry_taps;
 use picture::EdgeMode;
 
@@ -53,7 +52,7 @@ fn carry_output(
     }
 }
 
-// A pass backwards. Only outputs that are worth something are gone through.
+// A pass backwards. Nothing is carried from outputs that are worth nothing, which most are.
 pub fn carry_pass(
     outputs: &[u32],
     row: &mut [u32],
@@ -64,9 +63,9 @@ pub fn carry_pass(
     requires { PassReady kind outputs.now row.old numerators.now }
     ensures { Gained row.old row.new (λ l. worth_of outputs.now (exact_pass kind mode numerators.now (length row.old) l)) }
 {
-    let mut x = next_nonzero(outputs, 0);
-    while x < outputs.len() {
-        carry_output(row, x, outputs[x], kind, numerators, mode);
-        x = next_nonzero(outputs, x + 1);
+    for (x, v) in outputs.iter().enumerate() {
+        if *v != 0 {
+            carry_output(row, x, *v, kind, numerators, mode);
+        }
     }
 }

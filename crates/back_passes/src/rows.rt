@@ -1,5 +1,5 @@
 // Rows of numbers: what each element of a line is worth.
-ghost use Rattle.std.specs.Prelude.{◌≡◌, ◌+◌, ◌*◌, ◌≤◌, ◌<◌, ◌^◌, length, replicate};
+ghost use Rattle.std.specs.Prelude.{◌+◌, ◌*◌, ◌≤◌, ◌<◌, ◌^◌, length};
 ghost use Rattle.back_passes.specs.Worth.{total, Gained, NextNonzero};
 
 // Adds to what element i is worth.
@@ -16,23 +16,10 @@ pub fn next_nonzero(row: &[u32], from: usize) -> usize
     requires { from ≤ length row.now }
     ensures { NextNonzero row.now from result }
 {
-    let mut i = from;
-    while i < row.len() {
+    for i in from..row.len() {
         if row[i] != 0 {
             return i;
         }
-        i += 1;
     }
-    i
-}
-
-// Sets every element to 0.
-pub fn clear_row(row: &mut [u32])
-    ensures { row.new ≡ replicate (length row.old) 0 }
-{
-    let mut i = 0;
-    while i < row.len() {
-        row[i] = 0;
-        i += 1;
-    }
+    row.len()
 }

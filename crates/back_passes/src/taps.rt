@@ -5,7 +5,7 @@ ghost use Rattle.back_passes.specs.Worth.{total, Gained};
 ghost use Rattle.back_passes.specs.Steps.{tap_sum, TapsReady};
 
 use crate::rows::add;
-use edges::{At, extend};
+use edges::extend;
 use picture::EdgeMode;
 
 // Adds to what the element is worth that the coordinate c - d reads.
@@ -14,9 +14,8 @@ fn add_tap(row: &mut [u32], c: usize, d: usize, more: u32, mode: EdgeMode)
     requires fact_2 { total row.old + more < 2 ^ 32 }
     ensures { Gained row.old row.new (λ l. more * sample mode (length row.old) l c d) }
 {
-    match extend(c, d, row.len(), mode) {
-        At::Inside(i) => add(row, i, more),
-        At::Outside => (),
+    if let Some(i) = extend(c, d, row.len(), mode) {
+        add(row, i, more);
     }
 }
 
@@ -25,9 +24,7 @@ pub fn carry_taps(row: &mut [u32], c: usize, d: usize, v: u32, taps: &[u32], mod
     requires { TapsReady row.old c d v taps.now }
     ensures { Gained row.old row.new (λ l. v * tap_sum mode taps.now (length row.old) l c d) }
 {
-    let mut j = 0;
-    while j < taps.len() {
-        add_tap(row, c + j, d, v * taps[j], mode);
-        j += 1;
+    for (j, tap) in taps.iter().enumerate() {
+        add_tap(row, c + j, d, v * *tap, mode);
     }
 }

@@ -8,7 +8,6 @@ ghost use Rattle.back_passes.specs.Steps.{exact_pass, PassReady};
 
 use crate::side::LevelSide;
 use back_passes::back::{PassKind, carry_pass};
-use back_passes::rows::clear_row;
 use picture::EdgeMode;
 
 // A pass backwards into a row of zeros; the outputs are then 0.
@@ -25,7 +24,7 @@ fn move_back(
     ensures blank { Blank outputs.new }
 {
     carry_pass(outputs, row, kind, numerators, mode);
-    clear_row(outputs);
+    outputs.fill(0);
 }
 
 // From what each output of the blur is worth to what each element of the line is, into a row of zeros; the outputs are then 0.

@@ -7,6 +7,7 @@ use native.Mathlib.Omega.{arith}
 use lib.Ieee.{Float}
 use Rattle.picture.specs.Answer.{answered, Lent, lent}
 use Rattle.picture.specs.Modes.{mode_of}
+use Rattle.picture.specs.Refusal.{number_of}
 use Rattle.picture.proofs.Answers.{accepted}
 use Rattle.gaussian_blur.specs.Blurred.{blurred}
 use Rattle.gaussian_blur.specs.Outcome.{above_zero, blurred_or_kept, blur_outcome}
@@ -25,4 +26,4 @@ left_near p w h s weights n strength edge r left e zero on kernel bytes =
     (near_exact (mode_of edge) weights kernel n w h p (λ i. omega (arith, (bytes i).fits)))
 
 pub graded : OfTheEntry
-graded κs a r x e = left_near _ _ _ _ _ _ _ _ r (lent x.0.now x.1.1.1.0.now) e
+graded κs a r x e = left_near _ _ _ _ _ _ _ _ (number_of r) (lent x.0.now x.1.1.1.0.now) e

@@ -6,7 +6,7 @@ use native.Mathlib.Omega.{arith}
 use lib.Ieee.{Float}
 use lib.ListN.{length}
 use Rattle.picture.specs.Answer.{answered, Lent, lent}
-use Rattle.picture.specs.Refusal.{first_of, max_decimations}
+use Rattle.picture.specs.Refusal.{number_of, first_of, max_decimations}
 use Rattle.picture.proofs.Settled.{read}
 use Rattle.picture.proofs.Conditions.{each_passes, shallow_enough}
 use Rattle.gaussian_blur.specs.Outcome.{blur_checks, blur_outcome}
@@ -25,5 +25,5 @@ deeper p w h s weights n strength edge r left e fit l =
 
 pub up_to_14 : UpTo14
 up_to_14 κs a r left post fit l on kernel bytes =
-    let zero = deeper _ _ _ _ _ _ _ _ r (lent left.0.now left.1.1.1.0.now) post fit l in
+    let zero = deeper _ _ _ _ _ _ _ _ (number_of r) (lent left.0.now left.1.1.1.0.now) post fit l in
     (zero, graded κs a r left post zero on kernel bytes)

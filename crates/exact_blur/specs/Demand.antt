@@ -1,5 +1,5 @@
 -- Demand 3: on the 1/65536 grid every blurred channel is within 2n+1 steps of the exact blur, all edge modes, all sizes, every n.
-use Rattle.std.specs.Prelude.{◌≡◌, true, List, ℕ, ◌+◌, ◌*◌, ◌≤◌, ◌<◌, Float, length, get_or}
+use Rattle.std.specs.Prelude.{◌≡◌, true, Result, List, ℕ, ◌+◌, ◌*◌, ◌≤◌, ◌<◌, Float, length, get_or}
 use Rattle.std.specs.Int.{w8}
 use contract.Lifetimes.{Lfts}
 use borrow.Fn.Kinds.{Dens, ended_of}
@@ -8,8 +8,9 @@ use borrow.Table.Referent.{f_int}
 use denote.Triple.Clauses.{AtExit}
 use Rattle.picture.specs.Planes.{chan}
 use Rattle.picture.specs.Modes.{mode_of}
-use Rattle.picture.specs.Refusal.{first_of}
+use Rattle.picture.specs.Refusal.{number_of, first_of}
 use Rattle.picture.specs.declared.EdgeMode.{EdgeMode}
+use Rattle.picture.specs.declared.checks.Refusal.{Refusal}
 use Rattle.binary32.specs.Grid.{numerators, all_on_grid, sum}
 use Rattle.gaussian_blur.specs.Blurred.{blurred}
 use Rattle.gaussian_blur.specs.Outcome.{blur_checks, above_zero}
@@ -52,7 +53,7 @@ LentBytes p = Fit (f_int w8) 0 p
 -- as a grader reads it, of the entry's contract: what a call that answers 0 leaves in the lent picture, where the strength is above zero
 abbrev pub OfTheEntry : Type 0
 OfTheEntry =
-    (κs : Lfts 3) (a : Dens κs kinds.ps) (r : ℕ) (left : AtExit (ended_of 3 kinds.ps kinds.r) κs) → blur.Post κs a r left → r ≡ 0 →
+    (κs : Lfts 3) (a : Dens κs kinds.ps) (r : Result Unit Refusal) (left : AtExit (ended_of 3 kinds.ps kinds.r) κs) → blur.Post κs a r left → number_of r ≡ 0 →
     let p = a.0.now in
     let w = a.1.0 in
     let h = a.1.1.0 in
@@ -65,7 +66,7 @@ OfTheEntry =
 -- up to 14 decimations: a call that is accepted with none is accepted with n of them, and what it leaves is within 2n+1 steps
 abbrev pub UpTo14 : Type 0
 UpTo14 =
-    (κs : Lfts 3) (a : Dens κs kinds.ps) (r : ℕ) (left : AtExit (ended_of 3 kinds.ps kinds.r) κs) → blur.Post κs a r left →
+    (κs : Lfts 3) (a : Dens κs kinds.ps) (r : Result Unit Refusal) (left : AtExit (ended_of 3 kinds.ps kinds.r) κs) → blur.Post κs a r left →
     let p = a.0.now in
     let w = a.1.0 in
     let h = a.1.1.0 in
@@ -74,4 +75,4 @@ UpTo14 =
     let strength = a.1.1.1.1.1.1.0 in
     let edge = a.1.1.1.1.1.1.1.0 in
     0 ≡ first_of (blur_checks (length p) w h (length a.1.1.1.0.now) weights 0 strength edge) → n ≤ 14 →
-    above_zero strength ≡ true → GridKernel weights → LentBytes p → (r ≡ 0) × NearExact (mode_of edge) weights n w h p left.0.now
+    above_zero strength ≡ true → GridKernel weights → LentBytes p → (number_of r ≡ 0) × NearExact (mode_of edge) weights n w h p left.0.now

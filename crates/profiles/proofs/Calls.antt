@@ -6,11 +6,13 @@ use native.Mathlib.Omega.{arith}
 use borrow.Author.Tests.{ltb-false}
 use Rattle.picture.specs.Planes.{chan}
 use Rattle.picture.specs.Modes.{mode_of}
+use Rattle.picture.specs.Refusal.{number_of}
 use Rattle.picture.specs.Answer.{answered, Lent, lent}
 use Rattle.picture.specs.declared.EdgeMode.TheVariants.{None}
 use Rattle.picture.proofs.Answers.{lent_once}
 use Rattle.picture.proofs.Settled.{read}
 use Rattle.binary32.specs.Grid.{sum}
+use Rattle.passes.proofs.Refused.{answer_once}
 use Rattle.kept.proofs.Left.{either_way}
 use Rattle.gaussian_blur.specs.Outcome.{blur_outcome}
 use Rattle.exact_blur.specs.Exact.{exact_blur}
@@ -29,9 +31,11 @@ pub same_calls : SameCalls
 same_calls κs κs' a b r r' left left' post post' alike those fits number above bytes =
     let weights = b.1.1.1.1.0.now in
     let strength = b.1.1.1.1.1.1.0 in
+    let o =
     lent_once
     (post ∙ same_answers _ weights those fits strength number above _ _ _ _ _ _ (λ i. omega (arith, (bytes i).fits))
-    ∙ ap (λ (i : BlurInput). blur_outcome i.picture i.w i.h i.scratch weights i.n strength i.edge) alike ∙ sym post')
+    ∙ ap (λ (i : BlurInput). blur_outcome i.picture i.w i.h i.scratch weights i.n strength i.edge) alike ∙ sym post') in
+    (answer_once o.0, o.1, o.2)
 
 -- for a caller, of the equation that the entry promises
 pub left_between : (p : List ℕ) (w h : ℕ) (s ms : List ℕ) (n edge r : ℕ) (left : Lent) → answered r left ≡ whole_outcome p w h s ms n edge →
@@ -42,7 +46,7 @@ left_between p w h s ms n edge r left e whole mode c lc =
     (extremes w h (chan p w c)) (λ _. between_extremes ms whole (mode_of edge) mode n w h p c lc)
 
 pub leaves_between : LeavesBetween
-leaves_between κs a r left post = left_between _ _ _ _ _ _ _ r (lent left.0.now left.1.1.1.0.now) post
+leaves_between κs a r left post = left_between _ _ _ _ _ _ _ (number_of r) (lent left.0.now left.1.1.1.0.now) post
 
 pub left_near_exact : (p : List ℕ) (w h : ℕ) (s ms : List ℕ) (n edge r : ℕ) (left : Lent) → answered r left ≡ whole_outcome p w h s ms n edge →
     r ≡ 0 → LentBytes p → (c x y : ℕ) → c < 4 → x < w → y < h →
@@ -55,4 +59,4 @@ left_near_exact p w h s ms n edge r left e zero bytes c x y lc lx ly =
     rw is (whole_near_exact ms (ltb-false 65536 (sum ms) light) (mode_of edge) n w h p (λ i. omega (arith, (bytes i).fits)) c x y lc lx ly)
 
 pub leaves_near_exact : LeavesNearExact
-leaves_near_exact κs a r left post = left_near_exact _ _ _ _ _ _ _ r (lent left.0.now left.1.1.1.0.now) post
+leaves_near_exact κs a r left post = left_near_exact _ _ _ _ _ _ _ (number_of r) (lent left.0.now left.1.1.1.0.now) post

@@ -1,10 +1,12 @@
 -- The same of the entries by their generated contracts, whatever they answer but where it is said (request 04).
-use Rattle.std.specs.Prelude.{◌≡◌, true, List, ℕ, ◌≤◌, ◌<◌}
+use Rattle.std.specs.Prelude.{◌≡◌, true, Result, List, ℕ, ◌≤◌, ◌<◌}
 use contract.Lifetimes.{Lfts}
 use borrow.Fn.Kinds.{Dens, ended_of}
 use denote.Triple.Clauses.{AtExit}
 use Rattle.picture.specs.Planes.{chan}
 use Rattle.picture.specs.Modes.{mode_of}
+use Rattle.picture.specs.Refusal.{number_of}
+use Rattle.picture.specs.declared.checks.Refusal.{Refusal}
 use Rattle.picture.specs.declared.EdgeMode.TheVariants.{None}
 use Rattle.binary32.specs.Ranges.{finite}
 use Rattle.binary32.specs.Grid.{sum}
@@ -37,10 +39,10 @@ float_input κs b =
     let rest = b.1.1.1.1.1 in
     record { picture = b.0.now; w = b.1.0; h = b.1.1.0; scratch = b.1.1.1.0.now; n = rest.0; edge = rest.1.1.0 }
 
--- one call with numerators, and one with such weights and a strength above zero: the same number, picture and scratch
+-- one call with numerators, and one with such weights and a strength above zero: the same answer, picture and scratch
 abbrev pub SameCalls : Type 0
 SameCalls =
-    (κs κs' : Lfts 3) (a : Dens κs whole_Kinds.ps) (b : Dens κs' blur-kinds.ps) (r r' : ℕ)
+    (κs κs' : Lfts 3) (a : Dens κs whole_Kinds.ps) (b : Dens κs' blur-kinds.ps) (r r' : Result Unit Refusal)
     (left : AtExit (ended_of 3 whole_Kinds.ps whole_Kinds.r) κs) (left' : AtExit (ended_of 3 blur-kinds.ps blur-kinds.r) κs') →
     whole.Post κs a r left → blur.Post κs' b r' left' → whole_input κs a ≡ float_input κs' b →
     let ms = a.1.1.1.1.0.now in
@@ -52,7 +54,7 @@ SameCalls =
 -- each channel that a call leaves lies between that channel's least and greatest before
 abbrev pub LeavesBetween : Type 0
 LeavesBetween =
-    (κs : Lfts 3) (a : Dens κs whole_Kinds.ps) (r : ℕ) (left : AtExit (ended_of 3 whole_Kinds.ps whole_Kinds.r) κs) → whole.Post κs a r left →
+    (κs : Lfts 3) (a : Dens κs whole_Kinds.ps) (r : Result Unit Refusal) (left : AtExit (ended_of 3 whole_Kinds.ps whole_Kinds.r) κs) → whole.Post κs a r left →
     let i = whole_input κs a in
     sum a.1.1.1.1.0.now ≡ 65536 → (mode_of i.edge ≡ None → ⊥) → (c : ℕ) → c < 4 →
     InRange (least_of i.w i.h (chan i.picture i.w c)) (greatest_of i.w i.h (chan i.picture i.w c)) i.w i.h c left.0.now
@@ -60,7 +62,7 @@ LeavesBetween =
 -- and where a call answers 0, it is near the exact blur
 abbrev pub LeavesNearExact : Type 0
 LeavesNearExact =
-    (κs : Lfts 3) (a : Dens κs whole_Kinds.ps) (r : ℕ) (left : AtExit (ended_of 3 whole_Kinds.ps whole_Kinds.r) κs) → whole.Post κs a r left → r ≡ 0 →
+    (κs : Lfts 3) (a : Dens κs whole_Kinds.ps) (r : Result Unit Refusal) (left : AtExit (ended_of 3 whole_Kinds.ps whole_Kinds.r) κs) → whole.Post κs a r left → number_of r ≡ 0 →
     let i = whole_input κs a in
     LentBytes i.picture → (c x y : ℕ) → c < 4 → x < i.w → y < i.h →
     Within (steps_of i.n) i.n (chan left.0.now i.w c x y) (exact_blur (mode_of i.edge) a.1.1.1.1.0.now i.n i.w i.h (chan i.picture i.w c) x y)

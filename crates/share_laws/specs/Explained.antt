@@ -1,11 +1,13 @@
 -- What is promised of shares: they explain the exact blur, the axes separate, and all of one output come to the whole.
-use Rattle.std.specs.Prelude.{◌≡◌, true, List, ℕ, ◌+◌, ◌*◌, ◌/◌, ◌%◌, ◌≤◌, ◌<◌, Float, get_or}
+use Rattle.std.specs.Prelude.{◌≡◌, true, Result, List, ℕ, ◌+◌, ◌*◌, ◌/◌, ◌%◌, ◌≤◌, ◌<◌, Float, get_or}
 use contract.Lifetimes.{Lfts}
 use borrow.Fn.Kinds.{Dens, ended_of}
 use denote.Triple.Clauses.{AtExit}
 use Rattle.picture.specs.Planes.{Plane, chan}
 use Rattle.picture.specs.Modes.{mode_of}
+use Rattle.picture.specs.Refusal.{number_of}
 use Rattle.picture.specs.declared.EdgeMode.{EdgeMode}
+use Rattle.picture.specs.declared.checks.Refusal.{Refusal}
 use Rattle.picture.specs.declared.EdgeMode.TheVariants.{None}
 use Rattle.binary32.specs.Grid.{numerators, sum}
 use Rattle.binary32.specs.Taps.{sum_to}
@@ -45,7 +47,7 @@ SharesOfTheBlur =
 -- of what a call of the entry `blur` that answers 0 leaves in the lent picture, where the strength is above zero
 abbrev pub SharesOfTheEntry : Type 0
 SharesOfTheEntry =
-    (κs : Lfts 3) (a : Dens κs kinds.ps) (r : ℕ) (left : AtExit (ended_of 3 kinds.ps kinds.r) κs) → blur.Post κs a r left → r ≡ 0 →
+    (κs : Lfts 3) (a : Dens κs kinds.ps) (r : Result Unit Refusal) (left : AtExit (ended_of 3 kinds.ps kinds.r) κs) → blur.Post κs a r left → number_of r ≡ 0 →
     let p = a.0.now in
     let w = a.1.0 in
     let h = a.1.1.0 in

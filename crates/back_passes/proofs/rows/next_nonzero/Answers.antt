@@ -6,21 +6,16 @@ use Rattle.picture.proofs.Spans.{le_or_lt}
 use Rattle.back_passes.proofs.rows.next_nonzero.Goals as goal
 
 pub loop-i-init : goal.loop-i-init
-loop-i-init c = (omega arith, omega arith, λ k a b. absurd (omega arith))
+loop-i-init c = λ k a b. absurd (omega arith)
 
 pub returns-then-row-i-ne0 : goal.returns-then-row-i-ne0
 returns-then-row-i-ne0 c =
-    let i = c.loop-i.invariant in
-    record { low = i.0; high = i.1; blank = i.2; found = λ _. c.if-row-i-ne0.true }
+    record { low = omega arith; high = omega arith; blank = c.loop-i.invariant; found = λ _. c.if-row-i-ne0.true }
 
 pub loop-i-preserved : goal.loop-i-preserved
 loop-i-preserved c =
     let l = c.loop-i in
-    let i = l.invariant in (
-      omega arith,
-      omega arith,
-      λ k a b. ⊎_elim (λ (m : l.i ≤ k). let e : k ≡ l.i = omega arith in rw e c.if-row-i-ne0.false) (λ (m : k < l.i). i.2 k a m) (le_or_lt l.i k),
-    )
+    λ k a b. ⊎_elim (λ (m : l.i ≤ k). let e : k ≡ l.i = omega arith in rw e c.if-row-i-ne0.false) (λ (m : k < l.i). l.invariant k a m) (le_or_lt l.i k)
 
 pub returns : goal.returns
-returns c = let i = c.loop-i.invariant in record { low = i.0; high = i.1; blank = i.2; found = λ l. absurd (omega arith) }
+returns c = record { low = c.requires; high = omega arith; blank = λ k a b. c.loop-i.invariant k a (omega arith); found = λ l. absurd (omega arith) }

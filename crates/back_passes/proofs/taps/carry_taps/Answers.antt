@@ -13,7 +13,7 @@ use Rattle.back_passes.proofs.taps.carry_taps.Goals.{In-loop-j}
 pub loop-j-init : goal.loop-j-init
 loop-j-init c =
     let a = c.args in
-    (omega arith, refl, taps_none a.mode (length a.row.now) a.taps.now a.c a.d a.v a.row.now)
+    taps_none a.mode (length a.row.now) a.taps.now a.c a.d a.v a.row.now
 
 -- what a turn adds leaves room
 room : (c : In-loop-j) →
@@ -22,7 +22,7 @@ room : (c : In-loop-j) →
 room c =
     let l = c.loop-j in
     let a = c.args in
-    taps_room a.mode (length a.row.now) a.taps.now a.c a.d a.v a.row.now l.row l.j (omega arith) l.invariant.2
+    taps_room a.mode (length a.row.now) a.taps.now a.c a.d a.v a.row.now l.row l.j (omega arith) l.invariant
 
 pub overflow_add-c : goal.overflow_add-c
 overflow_add-c c = omega (arith, c.requires.far)
@@ -34,8 +34,8 @@ overflow_mul-v c =
 pub add_tap-requires : goal.add_tap-requires
 add_tap-requires c = let l = c.loop-j in record {
   fact_1 = record {
-    s_low = omega (arith, l.invariant.1, c.requires.sized.low);
-    s_high = omega (arith, l.invariant.1, c.requires.sized.high);
+    s_low = omega (arith, l.auto.row, c.requires.sized.low);
+    s_high = omega (arith, l.auto.row, c.requires.sized.high);
     c_high = omega (arith, c.requires.far);
     d_high = c.requires.near;
   };
@@ -47,12 +47,9 @@ loop-j-preserved c =
     let call = c.add_tap in
     let l = c.loop-j in
     let a = c.args in
-    let m = a.v * get_or a.taps.now l.j 0 in (
-      omega arith,
-      call.auto.row ∙ l.invariant.1,
-      taps_more a.mode (length a.row.now) a.taps.now a.c a.d a.v a.row.now l.row call.new.row l.j l.invariant.2
-          (subst (λ (s : ℕ). Gained l.row call.new.row (λ t. m * sample a.mode s t (a.c + l.j) a.d)) l.invariant.1 call.ensures),
-    )
+    let m = a.v * get_or a.taps.now l.j 0 in
+    taps_more a.mode (length a.row.now) a.taps.now a.c a.d a.v a.row.now l.row call.new.row l.j l.invariant
+    (subst (λ (s : ℕ). Gained l.row call.new.row (λ t. m * sample a.mode s t (a.c + l.j) a.d)) l.auto.row call.ensures)
 
 pub returns : goal.returns
 unfolding tap_sum
@@ -60,7 +57,4 @@ returns c t =
     let l = c.loop-j in
     let a = c.args in
     let e : l.j ≡ length a.taps.now = omega arith in
-    rw e at (l.invariant.2 t)
-
-pub shape_of-row : goal.shape_of-row
-shape_of-row c = c.loop-j.invariant.1
+    rw e at (l.invariant t)

@@ -1,13 +1,9 @@
 -- Each turn adds what one tap more reads, and nothing wraps: all that is added comes to at most v times the weights.
-use mathlib.Core.Path.{◌≡◌}
-use Prim.Native.Nat.{◌-◌, ◌*◌, ◌≤◌}
+use Prim.Native.Nat.{◌*◌}
 use lib.ListN.{length}
 use Rattle.back_passes.specs.Worth.{Gained}
 use Rattle.back_passes.specs.Steps.{taps_to}
 use Rattle.back_passes.proofs.taps.carry_taps.Given as goal
 
 abbrev pub invariant-loop-j : goal.invariant-loop-j
-invariant-loop-j l = (l.j ≤ length l.taps) × (length l.row ≡ length l.initial.row) × Gained l.initial.row l.row (λ line. l.v * taps_to l.mode l.taps (length l.initial.row) line l.c l.d l.j)
-
-abbrev pub decreases-loop-j : goal.decreases-loop-j
-decreases-loop-j l = length l.taps - l.j
+invariant-loop-j l = Gained l.initial.row l.row (λ line. l.v * taps_to l.mode l.taps (length l.initial.row) line l.c l.d l.j)

@@ -17,5 +17,5 @@ returns c =
       carried = λ l. c.carry_pass.ensures l
           ∙ ap (λ (k : ℕ). k + worth_of a.outputs.now (exact_pass a.kind a.mode a.numerators.now (length a.row.now) l)) (worth_blank a.row.now c.requires.fact_2 l)
           ∙ zero-add _;
-      blank = subst (λ (row : List ℕ). Blank row) (sym c.clear_row.ensures) (blank_replicate _);
+      blank = subst (λ (row : List ℕ). Blank row) (sym (c.fill.ensures.after (λ y e. e))) (blank_replicate _);
     }
