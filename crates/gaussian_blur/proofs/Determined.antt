@@ -6,7 +6,7 @@ use denote.Triple.Clauses.{AtExit}
 use Rattle.std.proofs.Common.{Result}
 use Rattle.picture.specs.declared.checks.Refusal.{Refusal}
 use Rattle.picture.proofs.Answers.{lent_once}
-use Rattle.passes.proofs.Refused.{answer_once}
+use Rattle.picture.proofs.Refused.{answer_once}
 use Rattle.gaussian_blur.proofs.blur.Reads as blur
 use Rattle.gaussian_blur.proofs.blur.Kinds as kinds
 

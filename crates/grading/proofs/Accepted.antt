@@ -23,7 +23,7 @@ use Rattle.edges.specs.Whole.{place_of}
 use Rattle.std.specs.Prelude.{Option, Some, None, Result, is_err}
 use Rattle.edges.proofs.Whole.{whole_below}
 use Rattle.grading.specs.Sampling.{view_refusal, accepts, Held, sampled_pixel, sampled}
-use Rattle.grading.proofs.Refused.{refusal_some, refusal_none}
+use Rattle.picture.proofs.Refused.{refusal_some, refusal_none}
 use Rattle.grading.proofs.Whole.{inside}
 
 module _ (bytes : List ℕ) (w h edge : ℕ) (r : Result Unit Refusal) (e : number_of r ≡ view_refusal bytes w h edge) where

@@ -17,7 +17,7 @@ use Rattle.grading.specs.Sampling.{seen}
 use Rattle.grading.specs.declared.premultiplied.Place.{Place}
 use Rattle.grading.specs.declared.sampling.View.{View}
 use Rattle.grading.proofs.Injective.{finding_injective}
-use Rattle.grading.proofs.Refused.{number_of_once}
+use Rattle.picture.proofs.Refused.{number_of_once}
 use Rattle.grading.proofs.premultiplied.check.Reads as check
 use Rattle.grading.proofs.premultiplied.check.Kinds as check-kinds
 use Rattle.grading.proofs.sampling.check_view.Reads as check-view

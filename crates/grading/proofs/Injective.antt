@@ -7,7 +7,7 @@ use Rattle.picture.specs.declared.checks.Refusal.{Refusal}
 use Rattle.picture.proofs.Answers.{undone}
 use Rattle.grading.specs.Premultiplied.{Finding, finding}
 use Rattle.grading.specs.declared.premultiplied.Place.{Place}
-use Rattle.grading.proofs.Refused.{answer_of, answer_undone}
+use Rattle.picture.proofs.Refused.{answer_of, answer_undone}
 
 check_back : Answer Finding → Result (Option Place) Refusal
 check_back f = answer_of f.number (cond f.left.found (Some (record { at = f.left.place })) None)

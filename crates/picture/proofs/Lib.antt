@@ -11,5 +11,6 @@ pub mod Spans
 pub mod Filled
 pub mod Passed
 pub mod Answers
+pub mod Refused
 pub mod Settled
 pub mod Conditions

@@ -9,7 +9,7 @@ use Rattle.std.proofs.Common.{Result}
 use Rattle.picture.specs.Answer.{Answer, answered}
 use Rattle.picture.specs.Refusal.{number_of}
 use Rattle.picture.specs.declared.checks.Refusal.{Refusal}
-use Rattle.passes.proofs.Refused.{answer_once}
+use Rattle.picture.proofs.Refused.{answer_once}
 use Rattle.planes.proofs.to_planes.Reads as to
 use Rattle.planes.proofs.to_planes.Kinds as to-kinds
 use Rattle.planes.proofs.from_planes.Reads as from

@@ -17,7 +17,7 @@ use Rattle.picture.specs.declared.checks.Refusal.{Refusal}
 use Rattle.picture.proofs.Sizes.{whole}
 use Rattle.picture.proofs.Passed.{passed}
 use Rattle.picture.proofs.Answers.{refused, done}
-use Rattle.passes.proofs.Refused.{number_some}
+use Rattle.picture.proofs.Refused.{number_some}
 use Rattle.planes.specs.Planar.{Converts}
 use Rattle.planes.specs.Outcome.{convert_checks, converted_outcome}
 

@@ -8,7 +8,7 @@ use denote.Triple.Clauses.{AtExit}
 use Rattle.std.proofs.Common.{Result}
 use Rattle.picture.specs.Answer.{Answer}
 use Rattle.picture.specs.declared.checks.Refusal.{Refusal}
-use Rattle.passes.proofs.Refused.{answer_once}
+use Rattle.picture.proofs.Refused.{answer_once}
 use Rattle.shift.proofs.shift.Reads as shift
 use Rattle.shift.proofs.shift.Kinds as kinds
 

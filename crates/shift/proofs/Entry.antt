@@ -15,7 +15,7 @@ use Rattle.picture.specs.declared.checks.Refusal.{Refusal}
 use Rattle.picture.proofs.Sizes.{whole}
 use Rattle.picture.proofs.Passed.{passed}
 use Rattle.picture.proofs.Answers.{refused, done}
-use Rattle.passes.proofs.Refused.{number_some}
+use Rattle.picture.proofs.Refused.{number_some}
 use Rattle.binary32.specs.Round.{whole_offset}
 use Rattle.shift.specs.Shift.{shifted_picture}
 use Rattle.shift.specs.Outcome.{ShiftReady, shift_checks, shift_outcome}

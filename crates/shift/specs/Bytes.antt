@@ -4,7 +4,12 @@ use Rattle.picture.specs.Build.{build}
 use Rattle.picture.specs.Buffers.{line_of, line_from, placed}
 use Rattle.binary32.specs.Round.{round_offset}
 use Rattle.binary32.specs.declared.Offset.{Offset}
+use Rattle.shift.specs.declared.ByteOffset.{ByteOffset}
 use Rattle.shift.specs.Shift.{moved, shifted}
+
+-- a move along bytes, as one along the elements of a line
+abbrev pub along : ByteOffset → Offset
+along d = record { plus = d.plus; minus = d.minus }
 
 -- all bytes moved by d, as one line
 unfoldable pub slid : Offset → List ℕ → List ℕ

@@ -6,11 +6,19 @@ ghost use Rattle.picture.specs.Refusal.{number_of, first_of};
 ghost use Rattle.picture.specs.Answer.{answered};
 ghost use Rattle.binary32.specs.Round.{whole_offset};
 ghost use Rattle.shift.specs.Shift.{shifted_picture};
-ghost use Rattle.shift.specs.Bytes.{slid, zeroed, run_moved, turn_row, columns_zeroed, inside_kept, plane_shifted, OneWay, moved_out, elements_shifted};
+ghost use Rattle.shift.specs.Bytes.{along, slid, zeroed, run_moved, turn_row, columns_zeroed, inside_kept, plane_shifted, OneWay, moved_out, elements_shifted};
 ghost use Rattle.shift.specs.Outcome.{wrong_offsets, ShiftReady, ElementsReady, shift_checks, shift_outcome};
 
 use binary32::Offset;
 use picture::{FullSize, Refusal, refuse_if};
+
+// A move along bytes: this many forward, or this many back. An `Offset` counts whole pixels, or rows: a kind of its own, so that neither is
+// lent for the other.
+#[derive(Clone, Copy)]
+pub struct ByteOffset {
+    pub plus: usize,
+    pub minus: usize,
+}
 
 // Sets the n bytes from `start` on to zero.
 fn clear_run(bytes: &mut [u8], start: usize, n: usize)
@@ -21,9 +29,9 @@ fn clear_run(bytes: &mut [u8], start: usize, n: usize)
 }
 
 // Makes of the w bytes from `to` on those from `from` on, moved by d: what stays inside is copied, the rest is cleared.
-fn move_run(bytes: &mut [u8], from: usize, to: usize, w: usize, d: Offset)
-    requires { (from + w ≤ length bytes.old) × (to + w ≤ length bytes.old) × OneWay d × (d.plus + d.minus ≤ w) }
-    ensures { bytes.new ≡ run_moved d w from to bytes.old }
+fn move_run(bytes: &mut [u8], from: usize, to: usize, w: usize, d: ByteOffset)
+    requires { (from + w ≤ length bytes.old) × (to + w ≤ length bytes.old) × OneWay (along d) × (d.plus + d.minus ≤ w) }
+    ensures { bytes.new ≡ run_moved (along d) w from to bytes.old }
 {
     let plus = d.plus;
     let minus = d.minus;
@@ -34,19 +42,19 @@ fn move_run(bytes: &mut [u8], from: usize, to: usize, w: usize, d: Offset)
 }
 
 // The same move with one of its numbers 0.
-fn net(d: Offset) -> Offset
-    ensures { OneWay result × (result.plus + d.minus ≡ d.plus + result.minus) }
+fn net(d: ByteOffset) -> ByteOffset
+    ensures { OneWay (along result) × (result.plus + d.minus ≡ d.plus + result.minus) }
 {
-    Offset {
+    ByteOffset {
         plus: d.plus.saturating_sub(d.minus),
         minus: d.minus.saturating_sub(d.plus),
     }
 }
 
 // Moves every byte by d places.
-fn slide(bytes: &mut [u8], d: Offset)
+fn slide(bytes: &mut [u8], d: ByteOffset)
     requires { (d.plus ≤ length bytes.old) × (d.minus ≤ length bytes.old) }
-    ensures { bytes.new ≡ slid d bytes.old }
+    ensures { bytes.new ≡ slid (along d) bytes.old }
 {
     let n = bytes.len();
     move_run(bytes, 0, 0, n, net(d));
@@ -76,9 +84,9 @@ fn clear_columns(bytes: &mut [u8], w: usize, h: usize, start: usize, n: usize)
 }
 
 // Sets each byte to zero that came from another row: the first columns, or the last.
-fn clear_exposed(bytes: &mut [u8], w: usize, h: usize, dx: Offset)
-    requires { (length bytes.old ≡ h * w) × OneWay dx × (dx.plus + dx.minus < w) }
-    ensures { bytes.new ≡ inside_kept dx w bytes.old }
+fn clear_exposed(bytes: &mut [u8], w: usize, h: usize, dx: ByteOffset)
+    requires { (length bytes.old ≡ h * w) × OneWay (along dx) × (dx.plus + dx.minus < w) }
+    ensures { bytes.new ≡ inside_kept (along dx) w bytes.old }
 {
     if 0 < dx.plus {
         clear_columns(bytes, w, h, 0, dx.plus);
@@ -90,22 +98,22 @@ fn clear_exposed(bytes: &mut [u8], w: usize, h: usize, dx: Offset)
 }
 
 // Whether nothing of a plane of w by h lies inside once it is moved by dx and dy.
-fn moved_out(w: usize, h: usize, dx: Offset, dy: Offset) -> bool
-    requires { OneWay dx × OneWay dy }
-    ensures { result ≡ moved_out w dx || moved_out h dy }
+fn moved_out(w: usize, h: usize, dx: ByteOffset, dy: Offset) -> bool
+    requires { OneWay (along dx) × OneWay dy }
+    ensures { result ≡ moved_out w (along dx) || moved_out h dy }
 {
     w <= dx.plus + dx.minus || h <= dy.plus + dy.minus
 }
 
 // Moves a plane of h rows of w bytes by dx and dy, all rows as one line, by dy rows and dx bytes at once;
 // what that brought in from another row is then cleared.
-fn move_flat(bytes: &mut [u8], w: usize, h: usize, dx: Offset, dy: Offset)
-    requires { (length bytes.old ≡ h * w) × OneWay dx × OneWay dy × (dx.plus + dx.minus < w) × (dy.plus + dy.minus < h) }
-    ensures { bytes.new ≡ plane_shifted dx dy w h bytes.old }
+fn move_flat(bytes: &mut [u8], w: usize, h: usize, dx: ByteOffset, dy: Offset)
+    requires { (length bytes.old ≡ h * w) × OneWay (along dx) × OneWay dy × (dx.plus + dx.minus < w) × (dy.plus + dy.minus < h) }
+    ensures { bytes.new ≡ plane_shifted (along dx) dy w h bytes.old }
 {
     slide(
         bytes,
-        Offset {
+        ByteOffset {
             plus: dy.plus * w + dx.plus,
             minus: dy.minus * w + dx.minus,
         },
@@ -122,9 +130,9 @@ fn turn_row(dy: Offset, n: usize, k: usize) -> usize
 }
 
 // Moves a plane of h rows of w bytes by dx and dy, row by row: only what stays inside is moved.
-fn move_rows(bytes: &mut [u8], w: usize, h: usize, dx: Offset, dy: Offset)
-    requires { (length bytes.old ≡ h * w) × OneWay dx × OneWay dy × (dx.plus + dx.minus < w) × (dy.plus + dy.minus < h) }
-    ensures { bytes.new ≡ plane_shifted dx dy w h bytes.old }
+fn move_rows(bytes: &mut [u8], w: usize, h: usize, dx: ByteOffset, dy: Offset)
+    requires { (length bytes.old ≡ h * w) × OneWay (along dx) × OneWay dy × (dx.plus + dx.minus < w) × (dy.plus + dy.minus < h) }
+    ensures { bytes.new ≡ plane_shifted (along dx) dy w h bytes.old }
 {
     let down = dy.plus;
     let up = dy.minus;
@@ -140,9 +148,9 @@ fn move_rows(bytes: &mut [u8], w: usize, h: usize, dx: Offset, dy: Offset)
 // Moves a plane of h rows of w bytes by dx and dy: row by row where much of each row leaves it, else as one line, which
 // is the quicker for narrow planes and for small moves. Much is more than a quarter of the row and 32 bytes: at less, what
 // the one line moves and then clears costs less than a call for each row.
-pub fn move_plane(bytes: &mut [u8], w: usize, h: usize, dx: Offset, dy: Offset)
-    requires { (length bytes.old ≡ h * w) × OneWay dx × OneWay dy }
-    ensures { bytes.new ≡ plane_shifted dx dy w h bytes.old }
+pub fn move_plane(bytes: &mut [u8], w: usize, h: usize, dx: ByteOffset, dy: Offset)
+    requires { (length bytes.old ≡ h * w) × OneWay (along dx) × OneWay dy }
+    ensures { bytes.new ≡ plane_shifted (along dx) dy w h bytes.old }
 {
     if moved_out(w, h, dx, dy) {
         let n = bytes.len();
@@ -170,7 +178,7 @@ fn offset_elements(bytes: &mut [u8], lanes: usize, size: FullSize, dx: f32, dy: 
         bytes,
         lanes * w,
         h,
-        Offset {
+        ByteOffset {
             plus: lanes * across.plus,
             minus: lanes * across.minus,
         },

@@ -1,14 +1,14 @@
 use mathlib.Core.Path.{◌≡◌, ap, ◌∙◌}
 use Prim.Native.Nat.{◌+◌, ◌*◌, ◌≤◌, ◌<◌}
 use native.Mathlib.Omega.{arith}
-use Rattle.shift.specs.Bytes.{zeroed}
+use Rattle.shift.specs.Bytes.{along, zeroed}
 use Rattle.shift.proofs.Columns.{row_fits}
 use Rattle.shift.proofs.Rows.{staying, rows_split, turn_in, none_turned, row_turned, rows_moved}
 use Rattle.shift.proofs.move_rows.Goals as goal
 use Rattle.shift.proofs.move_rows.Goals.{After-loop-k, After-turn_row-r}
 
 pub loop-k-init : goal.loop-k-init
-loop-k-init c = let a = c.args in none_turned a.dx a.dy a.w a.h a.bytes.now
+loop-k-init c = let a = c.args in none_turned (along a.dx) a.dy a.w a.h a.bytes.now
 
 -- the row that is moved, and the one it becomes, lie inside
 room : (c : After-turn_row-r) →
@@ -39,7 +39,7 @@ pub loop-k-preserved : goal.loop-k-preserved
 loop-k-preserved c =
     let a = c.args in
     rw (c.move_run.ensures, c.turn_row-r.ensures)
-    (row_turned a.dx a.dy a.w a.h a.bytes.now c.requires.0 c.requires.2 c.requires.3 c.loop-k.k c.loop-k.bytes c.loop-k.invariant (omega arith))
+    (row_turned (along a.dx) a.dy a.w a.h a.bytes.now c.requires.0 c.requires.2 c.requires.3 c.loop-k.k c.loop-k.bytes c.loop-k.invariant (omega arith))
 
 -- the rows above and below
 ends : (c : After-loop-k) →
@@ -72,4 +72,4 @@ returns c =
     let n = a.dy.plus + staying a.dy a.h in
     c.clear_run-2.ensures
     ∙ ap (zeroed (n * a.w) (a.dy.minus * a.w)) c.clear_run.ensures
-    ∙ rows_moved a.dx a.dy a.w a.h a.bytes.now c.requires.0 c.requires.2 c.requires.3 c.loop-k.k c.loop-k.bytes c.loop-k.invariant (omega arith) c.requires.4
+    ∙ rows_moved (along a.dx) a.dy a.w a.h a.bytes.now c.requires.0 c.requires.2 c.requires.3 c.loop-k.k c.loop-k.bytes c.loop-k.invariant (omega arith) c.requires.4

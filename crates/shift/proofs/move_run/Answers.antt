@@ -1,7 +1,7 @@
 -- What stays inside is copied, and what is exposed before or after it is set to zero.
 use mathlib.Core.Path.{ap, ◌∙◌}
 use Prim.Native.Nat.{◌+◌, ◌-◌}
-use Rattle.shift.specs.Bytes.{zeroed}
+use Rattle.shift.specs.Bytes.{along, zeroed}
 use Rattle.shift.proofs.Run.{run_cleared}
 use Rattle.shift.proofs.move_run.Goals as goal
 
@@ -11,4 +11,4 @@ returns c =
     let kept = a.w - (a.d.plus + a.d.minus) in
     c.clear_run-2.ensures
     ∙ ap (zeroed (a.to + a.d.plus + kept) a.d.minus) (c.clear_run.ensures ∙ ap (zeroed a.to a.d.plus) c.move_bytes.ensures)
-    ∙ run_cleared a.d a.w a.from a.to a.bytes.now c.requires.2 c.requires.3 c.requires.1
+    ∙ run_cleared (along a.d) a.w a.from a.to a.bytes.now c.requires.2 c.requires.3 c.requires.1

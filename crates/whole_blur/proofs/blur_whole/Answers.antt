@@ -3,7 +3,7 @@ use mathlib.Core.Path.{sym}
 use Rattle.std.proofs.lemmas.Result.{err_from_is_err_and}
 use Rattle.picture.specs.Refusal.{number_of}
 use Rattle.picture.proofs.Answers.{done}
-use Rattle.passes.proofs.Refused.{call_refused}
+use Rattle.picture.proofs.Refused.{call_refused}
 use Rattle.whole_blur.specs.Outcome.{whole_outcome}
 use Rattle.whole_blur.proofs.Outcomes.{whole_passes}
 use Rattle.whole_blur.proofs.blur_whole.Goals as goal

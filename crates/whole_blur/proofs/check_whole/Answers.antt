@@ -1,7 +1,7 @@
 -- A group of checks that refuses does so for the whole.
 use Rattle.std.proofs.lemmas.Result.{err_from_is_err_and}
 use Rattle.picture.specs.Refusal.{number_of, picture_checks}
-use Rattle.passes.proofs.Refused.{number_some, group_refuses}
+use Rattle.picture.proofs.Refused.{number_some, group_refuses}
 use Rattle.whole_blur.proofs.check_whole.Goals as goal
 
 pub returns-in_err-check_picture : goal.returns-in_err-check_picture
