@@ -1,5 +1,5 @@
 -- The alpha statement, of the entry's contract: two calls without the original whose pictures agree in alpha, and whose terms and lengths
--- are the same, answer the same number; and where that is 0 they leave the same picture.
+-- are the same, answer the same; and where they are done they leave the same picture.
 use mathlib.Core.Path.{◌≡◌, ◌∙◌, refl, sym, ap, subst}
 use mathlib.Core.Bool.{Bool, false}
 use mathlib.Core.List.{List}
@@ -12,8 +12,11 @@ use lib.ListN.{length}
 use Rattle.picture.specs.Answer.{Answer, LentCopy, lent_copy}
 use Rattle.picture.specs.Modes.{mode_of}
 use Rattle.picture.specs.Planes.{chan}
-use Rattle.picture.specs.Refusal.{first_of}
+use Rattle.picture.specs.Refusal.{number_of, first_of}
+use Rattle.picture.specs.declared.checks.Refusal.{Refusal}
 use Rattle.picture.proofs.Settled.{read}
+use Rattle.std.proofs.Common.{Result, Ok}
+use Rattle.passes.proofs.Refused.{answer_once}
 use Rattle.drop_shadow.specs.Outcome.{shadow_checks, shadow_outcome}
 use Rattle.drop_shadow.specs.Alike.{Terms, outcome_of, AlphaAlike}
 use Rattle.drop_shadow.specs.Shadowed.{shadowed}
@@ -68,14 +71,15 @@ terms κs a =
     let rest = a.1.1.1.1.1 in
     record { w = a.1.0; h = a.1.1.0; weights = rest.0.now; n = rest.1.0; edge = rest.1.1.0; recipe = rest.1.1.1.0; composite = rest.1.1.1.1.0 }
 
-pub alpha_alone : (κ₁ κ₂ : Lfts 4) (a₁ : Dens κ₁ kinds.ps) (a₂ : Dens κ₂ kinds.ps) (r₁ r₂ : ℕ)
+pub alpha_alone : (κ₁ κ₂ : Lfts 4) (a₁ : Dens κ₁ kinds.ps) (a₂ : Dens κ₂ kinds.ps) (r₁ r₂ : Result Unit Refusal)
     (x₁ : AtExit (ended_of 4 kinds.ps kinds.r) κ₁) (x₂ : AtExit (ended_of 4 kinds.ps kinds.r) κ₂) →
     AlphaAlike (buffers κ₁ a₁) (buffers κ₂ a₂) (terms κ₁ a₁) (terms κ₂ a₂) → shadow.Post κ₁ a₁ r₁ x₁ → shadow.Post κ₂ a₂ r₂ x₂ →
-    (r₁ ≡ r₂) × (r₁ ≡ 0 → x₁.0.now ≡ x₂.0.now)
+    (r₁ ≡ r₂) × (r₁ ≡ Ok tt → x₁.0.now ≡ x₂.0.now)
+unfolding number_of
 alpha_alone κ₁ κ₂ a₁ a₂ r₁ r₂ x₁ x₂ alike h₁ h₂ =
     let s = alike_same (buffers κ₁ a₁) (buffers κ₂ a₂) (terms κ₁ a₁) (terms κ₂ a₂) alike in
     let n₁ = ap (λ (o : Answer LentCopy). o.number) h₁ in
     let n₂ = ap (λ (o : Answer LentCopy). o.number) h₂ in (
-      n₁ ∙ s.0 ∙ sym n₂,
-      λ z. ap (λ (o : Answer LentCopy). o.left.picture) h₁ ∙ s.1 (sym n₁ ∙ z) ∙ sym (ap (λ (o : Answer LentCopy). o.left.picture) h₂),
+      answer_once (n₁ ∙ s.0 ∙ sym n₂),
+      λ z. ap (λ (o : Answer LentCopy). o.left.picture) h₁ ∙ s.1 (sym n₁ ∙ ap number_of z) ∙ sym (ap (λ (o : Answer LentCopy). o.left.picture) h₂),
     )

@@ -1,16 +1,18 @@
--- Whatever `shadow`'s contract allows of one call is one outcome: any two numbers with the buffers at exit coincide.
+-- Whatever `shadow`'s contract allows of one call is one outcome: any two answers with the buffers at exit coincide.
 use mathlib.Core.Path.{◌≡◌, ◌∙◌, sym, ap}
-use Prim.Native.Nat.{ℕ}
 use contract.Lifetimes.{Lfts}
 use borrow.Fn.Kinds.{Dens, ended_of}
 use denote.Triple.Clauses.{AtExit}
+use Rattle.std.proofs.Common.{Result}
 use Rattle.picture.specs.Answer.{Answer, LentCopy}
+use Rattle.picture.specs.declared.checks.Refusal.{Refusal}
+use Rattle.passes.proofs.Refused.{answer_once}
 use Rattle.drop_shadow.proofs.shadow.Reads as shadow
 use Rattle.drop_shadow.proofs.shadow.Kinds as kinds
 
-pub determined : (κs : Lfts 4) (a : Dens κs kinds.ps) (r₁ r₂ : ℕ) (x₁ x₂ : AtExit (ended_of 4 kinds.ps kinds.r) κs) →
+pub determined : (κs : Lfts 4) (a : Dens κs kinds.ps) (r₁ r₂ : Result Unit Refusal) (x₁ x₂ : AtExit (ended_of 4 kinds.ps kinds.r) κs) →
     shadow.Post κs a r₁ x₁ → shadow.Post κs a r₂ x₂ →
     (r₁ ≡ r₂) × (x₁.0.now ≡ x₂.0.now) × (x₁.1.1.1.0.now ≡ x₂.1.1.1.0.now) × (x₁.1.1.1.1.0.now ≡ x₂.1.1.1.1.0.now)
 determined κs a r₁ r₂ x₁ x₂ h₁ h₂ =
     let e = h₁ ∙ sym h₂ in
-    (ap (λ (o : Answer LentCopy). o.number) e, ap (λ (o : Answer LentCopy). o.left.picture) e, ap (λ (o : Answer LentCopy). o.left.scratch) e, ap (λ (o : Answer LentCopy). o.left.copy) e)
+    (answer_once (ap (λ (o : Answer LentCopy). o.number) e), ap (λ (o : Answer LentCopy). o.left.picture) e, ap (λ (o : Answer LentCopy). o.left.scratch) e, ap (λ (o : Answer LentCopy). o.left.copy) e)

@@ -4,7 +4,7 @@
 ghost use Rattle.std.specs.Prelude.{◌≡◌, false, length};
 ghost use Rattle.picture.specs.Planes.{cleared};
 ghost use Rattle.picture.specs.Sizes.{full_bytes};
-ghost use Rattle.picture.specs.Refusal.{first_of, wrong_sides};
+ghost use Rattle.picture.specs.Refusal.{number_of, first_of, wrong_sides};
 ghost use Rattle.picture.specs.Answer.{answered, lent_copy};
 ghost use Rattle.drop_shadow.specs.Shadowed.{colour_of};
 ghost use Rattle.drop_shadow.specs.Cast.{cast_bytes, casting_of, shadowed_by};
@@ -13,7 +13,7 @@ ghost use Rattle.drop_shadow.specs.Outcome.{either_short, not_finite, wrong_colo
 
 use composite::Colour;
 use passes::Form;
-use picture::{EdgeMode, FullSize};
+use picture::{EdgeMode, FullSize, Refusal, refuse_if};
 
 // How a shadow is cast: its offsets, its blur's strength and its colour.
 #[derive(Clone, Copy)]
@@ -27,14 +27,17 @@ pub struct Recipe {
     pub alpha: f32,
 }
 
-pub fn colour_of(recipe: Recipe) -> Colour
-    ensures { result ≡ colour_of recipe }
-{
-    Colour {
-        red: recipe.red,
-        green: recipe.green,
-        blue: recipe.blue,
-        alpha: recipe.alpha,
+// A recipe's colour.
+impl From<Recipe> for Colour {
+    ghost from_gives = { λ recipe colour. colour ≡ colour_of recipe };
+
+    fn from(recipe: Recipe) -> Colour {
+        Colour {
+            red: recipe.red,
+            green: recipe.green,
+            blue: recipe.blue,
+            alpha: recipe.alpha,
+        }
     }
 }
 
@@ -71,11 +74,16 @@ pub fn cast_plane(plane: &mut [u8], scratch: &mut [u8], weights: &[f32], cast: C
     let mode = cast.mode;
     let recipe = cast.recipe;
     shift::offset_plane(plane, size, recipe.dx, recipe.dy);
-    let one = Form {
-        planes: 1,
-        lanes: 1,
-    };
-    gaussian_blur::blur_form(plane, scratch, size, one, n, weights, mode, recipe.strength);
+    gaussian_blur::blur_form(
+        plane,
+        scratch,
+        size,
+        Form::PLANE,
+        n,
+        weights,
+        mode,
+        recipe.strength,
+    );
 }
 
 // Takes the picture's alphas, casts them as a shadow, colours it, and lays the picture over it.
@@ -92,33 +100,28 @@ pub fn apply_drop_shadow(
 {
     composite::take_alphas(plane, picture);
     cast_plane(plane, scratch, weights, cast);
-    let size = cast.size;
-    let recipe = cast.recipe;
-    let colour = colour_of(recipe);
-    composite::write_colored_shadow(plane, picture, size, colour, cast.composite);
+    let colour = Colour::from(cast.recipe);
+    composite::write_colored_shadow(plane, picture, cast.size, colour, cast.composite);
 }
 
 // Refusal 3's condition, of both work buffers.
+#[tactic(auto, unfolding(crate::specs::Outcome::either_short))]
 pub fn either_short(scratch: usize, copy: usize, w: u32, h: u32) -> bool
     ensures { result ≡ either_short scratch copy w h }
 {
-    if picture::too_short(scratch, w, h) {
-        return true;
-    }
-    picture::too_short(copy, w, h)
+    picture::too_short(scratch, w, h) || picture::too_short(copy, w, h)
 }
 
 // Refusal 7's condition.
+#[tactic(auto, unfolding(crate::specs::Outcome::not_finite))]
 pub fn not_finite(recipe: Recipe) -> bool
     ensures { result ≡ not_finite recipe }
 {
-    if shift::wrong_offsets(recipe.dx, recipe.dy) {
-        return true;
-    }
-    !binary32::is_finite(recipe.strength)
+    shift::wrong_offsets(recipe.dx, recipe.dy) || !binary32::is_finite(recipe.strength)
 }
 
 // Refusal 8's condition.
+#[tactic(auto, unfolding(crate::specs::Outcome::wrong_colour))]
 pub fn wrong_colour(recipe: Recipe) -> bool
     ensures { result ≡ wrong_colour recipe }
 {
@@ -126,8 +129,9 @@ pub fn wrong_colour(recipe: Recipe) -> bool
     binary32::any_outside(&components)
 }
 
-// The first of refusals 1 to 9 that fits, 0 where none does; of the buffers' lengths.
-pub fn shadow_refusal(
+// The first of refusals 1 to 9 that fits; of the buffers' lengths.
+#[tactic(auto, unfolding(picture::specs::Refusal::number_of, picture::specs::Refusal::number, picture::specs::Refusal::first_of, picture::specs::Refusal::first_else))]
+pub fn check_shadow(
     picture: usize,
     w: u32,
     h: u32,
@@ -137,35 +141,16 @@ pub fn shadow_refusal(
     n: u32,
     edge: u32,
     recipe: Recipe,
-) -> u32
-    ensures { result ≡ first_of (shadow_checks picture w h scratch copy weights.now n edge recipe) }
+) -> Result<(), Refusal>
+    ensures { number_of result ≡ first_of (shadow_checks picture w h scratch copy weights.now n edge recipe) }
 {
-    let short = either_short(scratch, copy, w, h);
-    picture::picture_refusal(
-        picture,
-        w,
-        h,
-        picture::first(
-            picture::TOO_SHORT,
-            short,
-            gaussian_blur::kernel_refusal(
-                weights,
-                picture::first(
-                    picture::TOO_DEEP,
-                    picture::too_deep(n),
-                    picture::first(
-                        picture::NOT_FINITE,
-                        not_finite(recipe),
-                        picture::first(
-                            picture::WRONG_COLOUR,
-                            wrong_colour(recipe),
-                            picture::first(picture::WRONG_EDGE, picture::wrong_edge(edge), 0),
-                        ),
-                    ),
-                ),
-            ),
-        ),
-    )
+    picture::check_picture(picture, w, h)?;
+    refuse_if(either_short(scratch, copy, w, h), Refusal::TooShort)?;
+    gaussian_blur::check_kernel(weights)?;
+    refuse_if(picture::too_deep(n), Refusal::TooDeep)?;
+    refuse_if(not_finite(recipe), Refusal::NotFinite)?;
+    refuse_if(wrong_colour(recipe), Refusal::WrongColour)?;
+    refuse_if(picture::wrong_edge(edge), Refusal::WrongEdge)
 }
 
 // An accepted call: the picture with its shadow, and the work buffers zero where they were used.
@@ -206,10 +191,10 @@ pub fn shadow(
     edge: u32,
     recipe: Recipe,
     composite: bool,
-) -> u32
-    ensures { answered result (lent_copy picture.new scratch.new copy.new) ≡ shadow_outcome picture.old w h scratch.old copy.old weights.now n edge recipe composite }
+) -> Result<(), Refusal>
+    ensures { answered (number_of result) (lent_copy picture.new scratch.new copy.new) ≡ shadow_outcome picture.old w h scratch.old copy.old weights.now n edge recipe composite }
 {
-    let r = shadow_refusal(
+    check_shadow(
         picture.len(),
         w,
         h,
@@ -219,11 +204,8 @@ pub fn shadow(
         n,
         edge,
         recipe,
-    );
-    if r != 0 {
-        return r;
-    }
+    )?;
     let cast = casting_of(w, h, n, edge, recipe, composite);
     shadow_accepted(picture, scratch, copy, weights, cast);
-    0
+    Ok(())
 }

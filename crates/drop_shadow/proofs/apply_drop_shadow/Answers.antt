@@ -12,7 +12,7 @@ write_colored_shadow-requires c =
     record {
       fact_1 = c.cast_plane.auto.plane ∙ c.take_alphas.auto.plane ∙ r.plane_is;
       fact_2 = record { sized = r.sized; exact = c.requires.fact_2 };
-      fact_3 = rw c.colour_of-colour.ensures r.given.colour;
+      fact_3 = rw c.from-colour.ensures r.given.colour;
     }
 
 pub returns : goal.returns
@@ -26,7 +26,7 @@ returns c =
     let zw = r.sized.w_low in
     let zh = r.sized.h_low in
     c.write_colored_shadow.ensures
-    ∙ rw (c.colour_of-colour.ensures, c.cast_plane.ensures, c.take_alphas.ensures)
+    ∙ rw (c.from-colour.ensures, c.cast_plane.ensures, c.take_alphas.ensures)
     (painted_same w h _ _
     (λ k x y lk lx ly.
     cast_laid t.mode a.weights.now t.n t.recipe w h zw zh t.composite _ (chan p w) (λ i j li lj. alphas_plane _ p w h i j r.plane_is li lj) k x y lx ly))
