@@ -12,14 +12,14 @@ use Rattle.picture.specs.Answer.{Answer}
 use Rattle.picture.specs.Sizes.{full_size}
 use Rattle.picture.specs.Slice.{slice_part}
 use Rattle.picture.proofs.Answers.{undone}
-use Rattle.plate.specs.Lookup.{Picture, answers, stretch_in, Beside, labels}
-use Rattle.plate.specs.declared.Refusal.TheVariants.{BrokenPlate, NoPicture}
+use Rattle.std.proofs.Common.{Result, Ok, Err}
+use Rattle.picture.specs.declared.checks.Refusal.{Refusal}
+use Rattle.plate_numbers.proofs.Refused.{never_zero, refusal_of, refusal_is}
+use Rattle.plate.specs.Lookup.{Picture, answers, Beside, unit_number, labels}
 use Rattle.plate.specs.declared.Unit.{Unit}
 use Rattle.plate.specs.declared.Unit.TheVariants.{Unnamed, Milliohm, Microohm}
-use Rattle.plate.specs.declared.Labelling.{Labelling}
-use Rattle.plate.specs.declared.Labelling.TheVariants.{NoLabel, Named}
-use Rattle.plate.specs.declared.Lookup.{Lookup}
-use Rattle.plate.specs.declared.Lookup.TheVariants.{Refused, Found}
+use Rattle.plate.specs.declared.Label.{Label}
+use Rattle.plate.specs.declared.Found.{Found}
 use Rattle.plate.proofs.find_picture.Reads as find
 use Rattle.plate.proofs.find_picture.Kinds as find-kinds
 use Rattle.plate.proofs.find_label.Reads as label
@@ -28,21 +28,21 @@ use Rattle.plate.proofs.plate_picture.Reads as part
 use Rattle.plate.proofs.plate_picture.Kinds as part-kinds
 
 -- the answer that has this number and these values
-abbrev back : Answer Picture → Lookup
+abbrev back : Answer Picture → Result Found Refusal
 back a =
-    cond (eqb a.number 0) (Found (full_size a.left.width a.left.height) (stretch_in a.left))
-    (cond (eqb a.number 10) (Refused BrokenPlate) (Refused NoPicture))
+    cond (eqb a.number 0)
+    (Ok (record { size = full_size a.left.width a.left.height; stretch = record { offset = a.left.offset; length = a.left.length } }))
+    (Err (refusal_of a.number))
 
-back_is : (a : Lookup) → back (answers a) ≡ a
-back_is (Refused BrokenPlate) = refl
-back_is (Refused NoPicture) = refl
-back_is (Found size stretch) = refl
+back_is : (a : Result Found Refusal) → back (answers a) ≡ a
+back_is (Err r) = rw (never_zero r, refusal_is r)
+back_is (Ok found) = refl
 
 -- no two answers have the same number and values
-pub answers_once : (a b : Lookup) → answers a ≡ answers b → a ≡ b
+pub answers_once : (a b : Result Found Refusal) → answers a ≡ answers b → a ≡ b
 answers_once = undone answers back back_is
 
-pub find_determined : (κs : Lfts 1) (a : Dens κs find-kinds.ps) (r₁ r₂ : Lookup) (x₁ x₂ : AtExit (ended_of 1 find-kinds.ps find-kinds.r) κs) →
+pub find_determined : (κs : Lfts 1) (a : Dens κs find-kinds.ps) (r₁ r₂ : Result Found Refusal) (x₁ x₂ : AtExit (ended_of 1 find-kinds.ps find-kinds.r) κs) →
     find.Post κs a r₁ x₁ → find.Post κs a r₂ x₂ → r₁ ≡ r₂
 find_determined κs a r₁ r₂ x₁ x₂ h₁ h₂ = answers_once r₁ r₂ (h₁ ∙ sym h₂)
 
@@ -50,22 +50,22 @@ find_determined κs a r₁ r₂ x₁ x₂ h₁ h₂ = answers_once r₁ r₂ (h�
 abbrev unit_of : ℕ → Unit
 unit_of number = cond (eqb number 1) Milliohm (cond (eqb number 2) Microohm Unnamed)
 
-abbrev label_back : Answer Beside → Labelling
-label_back a =
-    cond (eqb a.number 0) (Named (unit_of a.left.unit) a.left.sheet)
-    (cond (eqb a.number 10) (NoLabel BrokenPlate) (NoLabel NoPicture))
+abbrev label_back : Answer Beside → Result Label Refusal
+label_back a = cond (eqb a.number 0) (Ok (record { unit = unit_of a.left.unit; sheet = a.left.sheet })) (Err (refusal_of a.number))
 
-label_back_is : (a : Labelling) → label_back (labels a) ≡ a
-label_back_is (NoLabel BrokenPlate) = refl
-label_back_is (NoLabel NoPicture) = refl
-label_back_is (Named Unnamed sheet) = refl
-label_back_is (Named Milliohm sheet) = refl
-label_back_is (Named Microohm sheet) = refl
+unit_back : (u : Unit) → unit_of (unit_number u) ≡ u
+unit_back Unnamed = refl
+unit_back Milliohm = refl
+unit_back Microohm = refl
 
-pub labels_once : (a b : Labelling) → labels a ≡ labels b → a ≡ b
+label_back_is : (a : Result Label Refusal) → label_back (labels a) ≡ a
+label_back_is (Err r) = rw (never_zero r, refusal_is r)
+label_back_is (Ok l) = rw (unit_back l.unit)
+
+pub labels_once : (a b : Result Label Refusal) → labels a ≡ labels b → a ≡ b
 labels_once = undone labels label_back label_back_is
 
-pub label_determined : (κs : Lfts 1) (a : Dens κs label-kinds.ps) (r₁ r₂ : Labelling) (x₁ x₂ : AtExit (ended_of 1 label-kinds.ps label-kinds.r) κs) →
+pub label_determined : (κs : Lfts 1) (a : Dens κs label-kinds.ps) (r₁ r₂ : Result Label Refusal) (x₁ x₂ : AtExit (ended_of 1 label-kinds.ps label-kinds.r) κs) →
     label.Post κs a r₁ x₁ → label.Post κs a r₂ x₂ → r₁ ≡ r₂
 label_determined κs a r₁ r₂ x₁ x₂ h₁ h₂ = labels_once r₁ r₂ (h₁ ∙ sym h₂)
 

@@ -14,14 +14,7 @@ use Rattle.picture.proofs.Tests.{neither}
 use Rattle.plate_numbers.specs.Numbers.{version, count, labelled, wrong_unit}
 use Rattle.plate_format.specs.Format.{label_at, entry_of, is_plate}
 use Rattle.plate_format.proofs.Rules.{Obeyed, plate_entry}
-use Rattle.plate.specs.Lookup.{Picture, nothing, picture_of, lookup_checks, lookup_number, looked_up_to, looked_up}
-use Rattle.plate.specs.declared.Refusal.{Refusal}
-use Rattle.plate.specs.declared.Refusal.TheVariants.{BrokenPlate, NoPicture}
-
--- no refusal has the number 0
-pub refuses : (r : Refusal) → lookup_number r ≡ 0 → ⊥
-refuses BrokenPlate e = omega arith
-refuses NoPicture e = omega arith
+use Rattle.plate.specs.Lookup.{Picture, nothing, picture_of, lookup_checks, looked_up_to, looked_up}
 
 -- a unit that the rules let through, and one that is not there
 pub named : (v unit : ℕ) → labelled v ≡ true → wrong_unit v unit ≡ false → unit ≤ 2

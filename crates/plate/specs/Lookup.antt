@@ -1,22 +1,17 @@
 -- Picture of a plate: its number, its sides, which stretch of the caller's own file it is, and its unit and sheet.
-use Rattle.std.specs.Prelude.{◌≡◌, true, not, List, [], ◌∷◌, ℕ, ◌+◌, ◌<◌, leb, take, drop}
+use Rattle.std.specs.Prelude.{◌≡◌, true, not, List, [], ◌∷◌, ℕ, ◌+◌, ◌<◌, leb, take, drop, Result, Ok, Err}
 use Rattle.std.specs.Borrow.{Bor}
 use Rattle.picture.specs.Answer.{Answer, answered, settled}
-use Rattle.picture.specs.Refusal.{Check, check, first_of}
+use Rattle.picture.specs.Refusal.{Check, check, first_of, number}
 use Rattle.picture.specs.Slice.{SlicePart}
 use Rattle.plate_numbers.specs.Numbers.{count, newest}
 use Rattle.plate_format.specs.Format.{entry_of, body_offset, is_plate_to, is_plate}
-use Rattle.plate.specs.declared.Refusal.{Refusal}
-use Rattle.plate.specs.declared.Refusal.TheVariants.{BrokenPlate, NoPicture}
-use Rattle.plate.specs.declared.Stretch.{Stretch}
-use Rattle.plate.specs.declared.Asked.{Asked}
-use Rattle.plate.specs.declared.Asked.TheVariants.{Unlisted, Listed}
+use Rattle.picture.specs.declared.checks.Refusal.{Refusal}
+use Rattle.plate_format.specs.declared.Entry.{Entry}
 use Rattle.plate.specs.declared.Unit.{Unit}
 use Rattle.plate.specs.declared.Unit.TheVariants.{Unnamed, Milliohm, Microohm}
-use Rattle.plate.specs.declared.Labelling.{Labelling}
-use Rattle.plate.specs.declared.Labelling.TheVariants.{NoLabel, Named}
-use Rattle.plate.specs.declared.Lookup.{Lookup}
-use Rattle.plate.specs.declared.Lookup.TheVariants.{Refused, Found}
+use Rattle.plate.specs.declared.Label.{Label}
+use Rattle.plate.specs.declared.Found.{Found}
 
 -- the values beside the number: the sides, and the stretch of the file
 pub record Picture : Type 0 where
@@ -75,30 +70,26 @@ unit_number Unnamed = 0
 unit_number Milliohm = 1
 unit_number Microohm = 2
 
--- the number of each refusal
-abbrev pub lookup_number : Refusal → ℕ
-lookup_number BrokenPlate = 10
-lookup_number NoPicture = 12
+-- what a number of two bytes gives: the unit that has it, or a refusal of those above 2
+abbrev pub UnitOf : ℕ → Result Unit Refusal → Type 0
+UnitOf n (Ok unit) = unit_number unit ≡ n
+UnitOf n (Err r) = 2 < n
 
--- the number and the values of each case of the answer
-abbrev pub answers : Lookup → Answer Picture
-answers (Refused r) = answered (lookup_number r) nothing
-answers (Found size s) = answered 0 (record { width = size.w; height = size.h; offset = s.offset; length = s.length })
+-- the number and the values of each answer
+abbrev pub answers : Result Found Refusal → Answer Picture
+answers (Err r) = answered (number r) nothing
+answers (Ok p) = answered 0 (record { width = p.size.w; height = p.size.h; offset = p.stretch.offset; length = p.stretch.length })
 
--- the stretch among those values
-abbrev pub stretch_in : Picture → Stretch
-stretch_in p = record { offset = p.offset; length = p.length }
-
--- that stretch of the caller's own file: offset bytes after the file's own start, and length bytes long
+-- the stretch of the caller's own file among those values: offset bytes after the file's own start, and length bytes long
 abbrev pub stretch_of : Bor (List ℕ) → Picture → SlicePart
 stretch_of file p = record { block = file.ref_ptr.0; start = file.ref_ptr.1 + p.offset; bytes = take p.length (drop p.offset file.now) }
 
 -- the same of a label
-abbrev pub labels : Labelling → Answer Beside
-labels (NoLabel r) = answered (lookup_number r) (beside 0 0)
-labels (Named unit sheet) = answered 0 (beside (unit_number unit) sheet)
+abbrev pub labels : Result Label Refusal → Answer Beside
+labels (Err r) = answered (number r) (beside 0 0)
+labels (Ok l) = answered 0 (beside (unit_number l.unit) l.sheet)
 
 -- what asking for an entry finds: the number that its checks give, or the entry of a plate
-abbrev pub Finds : List ℕ → ℕ → Asked → Type 0
-Finds file index (Unlisted r) = lookup_number r ≡ first_of (lookup_checks file index)
-Finds file index (Listed e) = (is_plate file ≡ true) × (index < count file) × (e ≡ entry_of file index)
+abbrev pub Finds : List ℕ → ℕ → Result Entry Refusal → Type 0
+Finds file index (Err r) = number r ≡ first_of (lookup_checks file index)
+Finds file index (Ok e) = (is_plate file ≡ true) × (index < count file) × (e ≡ entry_of file index)

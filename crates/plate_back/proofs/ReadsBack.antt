@@ -9,13 +9,15 @@ use borrow.Fn.Kinds.{Dens, ended_of}
 use denote.Triple.Clauses.{AtExit}
 use lib.ListN.{length, take, drop}
 use lib.Seq.{take_at, drop_at}
+use Rattle.std.proofs.Common.{Result, Ok}
+use Rattle.picture.specs.declared.checks.Refusal.{Refusal}
 use Rattle.picture.specs.Answer.{answered}
 use Rattle.picture.specs.Planes.{laid}
 use Rattle.plate_numbers.specs.Numbers.{version, count, entry_size}
 use Rattle.plate_format.specs.Format.{entry_of, is_plate}
 use Rattle.plate_written.proofs.Written.{length_header}
 use Rattle.plate.specs.Lookup.{picture_of, looked_up, answers, Beside, beside, labelled_up_to, labelled_up}
-use Rattle.plate.specs.declared.Lookup.{Lookup}
+use Rattle.plate.specs.declared.Found.{Found}
 use Rattle.plate.proofs.Settle.{listed, there}
 use Rattle.plate_room.specs.Room.{in_use}
 use Rattle.plate_room.proofs.Room.{roomy}
@@ -24,8 +26,6 @@ use Rattle.plate_write.specs.Added.{added}
 use Rattle.plate_empty.specs.Outcome.{Grown, grown}
 use Rattle.plate_write.specs.Steps.{Adding}
 use Rattle.plate_back.specs.ReadsBack.{moved_on, last_added, ReadsBack}
-use Rattle.plate_write.specs.declared.Added.TheVariants.{InUse}
-use Rattle.plate_empty.specs.declared.Started.TheVariants.{Empty}
 use Rattle.plate_back.proofs.Back.{Addable, version_kept, count_more, old_entry_is, new_entry_is, offset_is, last, length_added, old_body, new_body, still}
 use Rattle.plate_back.proofs.Empty.{empty_version, empty_count, empty_plate_lem}
 use Rattle.plate_empty.proofs.Settle.{start_accepted}
@@ -87,7 +87,7 @@ module _ {buffer : List ℕ} {used w h : ℕ} {picture : List ℕ} (label : Besi
       }
 
 -- as a user reads it, of the entry's contract: what a call that is not refused leaves
-pub reads_back : (κs : Lfts 2) (a : Dens κs add-kinds.ps) (used' : ℕ) (left : AtExit (ended_of 2 add-kinds.ps add-kinds.r) κs) → add.Post κs a (InUse used') left →
+pub reads_back : (κs : Lfts 2) (a : Dens κs add-kinds.ps) (used' : ℕ) (left : AtExit (ended_of 2 add-kinds.ps add-kinds.r) κs) → add.Post κs a (Ok used') left →
     let buffer = a.0.now in
     let after = left.0.now in
     ReadsBack (in_use buffer a.1.0) (in_use after used') a.1.1.1.0 a.1.1.1.1.0 (beside a.1.1.1.1.1.0 a.1.1.1.1.1.1.0) a.1.1.0.now × (drop used' after ≡ drop used' buffer)
@@ -102,14 +102,14 @@ reads_back κs a used' left post =
 
 -- of a lookup's contract: asked of the new stretch, it answers what it answered of the old one, one table entry further on; and after the old pictures the new one
 pub finds_back : {old new picture : List ℕ} {w h : ℕ} {label : Beside} → ReadsBack old new w h label picture →
-    (κs : Lfts 1) (a : Dens κs find-kinds.ps) (r : Lookup) (left : AtExit (ended_of 1 find-kinds.ps find-kinds.r) κs) → find.Post κs a r left → a.0.now ≡ new →
+    (κs : Lfts 1) (a : Dens κs find-kinds.ps) (r : Result Found Refusal) (left : AtExit (ended_of 1 find-kinds.ps find-kinds.r) κs) → find.Post κs a r left → a.0.now ≡ new →
     (a.1.0 < count old → answers r ≡ moved_on (entry_size (version old)) (looked_up old a.1.0))
     × (a.1.0 ≡ count old → answers r ≡ answered 0 (last_added old w h))
 finds_back back κs a r left post is =
     (λ l. post ∙ ap (λ (file : List ℕ). looked_up file a.1.0) is ∙ back.old_found a.1.0 l, λ e. post ∙ rw (is, e) back.new_found)
 
 -- a plate that was started is a plate of no pictures, of the version that was named
-pub starts_empty : (κs : Lfts 1) (a : Dens κs start-kinds.ps) (used : ℕ) (left : AtExit (ended_of 1 start-kinds.ps start-kinds.r) κs) → start.Post κs a (Empty used) left →
+pub starts_empty : (κs : Lfts 1) (a : Dens κs start-kinds.ps) (used : ℕ) (left : AtExit (ended_of 1 start-kinds.ps start-kinds.r) κs) → start.Post κs a (Ok used) left →
     let plate = in_use left.0.now used in
     (is_plate plate ≡ true) × (version plate ≡ a.1.0) × (count plate ≡ 0) × (drop used left.0.now ≡ drop used a.0.now)
 starts_empty κs a used left post =

@@ -1,14 +1,11 @@
 -- What starting a plate answers and leaves: the number, the buffer, and the length in use.
-use Rattle.std.specs.Prelude.{not, List, [], ◌∷◌, ℕ, ltb, length}
+use Rattle.std.specs.Prelude.{not, List, [], ◌∷◌, ℕ, ltb, length, Result, Ok, Err}
 use Rattle.picture.specs.Answer.{Answer, answered, settled}
 use Rattle.picture.specs.Planes.{laid}
-use Rattle.picture.specs.Refusal.{Check, check, first_of}
+use Rattle.picture.specs.Refusal.{Check, check, first_of, number}
 use Rattle.plate_numbers.specs.Numbers.{known}
 use Rattle.plate_written.specs.Written.{header_bytes}
-use Rattle.plate_empty.specs.declared.StartRefusal.{StartRefusal}
-use Rattle.plate_empty.specs.declared.StartRefusal.TheVariants.{UnknownVersion, NoHeaderRoom}
-use Rattle.plate_empty.specs.declared.Started.{Started}
-use Rattle.plate_empty.specs.declared.Started.TheVariants.{NotStarted, Empty}
+use Rattle.picture.specs.declared.checks.Refusal.{Refusal}
 
 -- the lent buffer, and how many bytes of it are the plate
 pub record Grown : Type 0 where
@@ -30,12 +27,7 @@ start_checks room v = check 10 (not (known v)) ∷ check 13 (ltb room 4) ∷ []
 unfoldable pub start_outcome : List ℕ → ℕ → Answer Grown
 start_outcome buffer v = settled (first_of (start_checks (length buffer) v)) (grown buffer 0) (grown (laid (empty_plate v) buffer) 4)
 
--- the number of each refusal
-abbrev pub start_number : StartRefusal → ℕ
-start_number UnknownVersion = 10
-start_number NoHeaderRoom = 13
-
--- an answer and the buffer that it leaves: a refused length is 0
-abbrev pub starts : Started → List ℕ → Answer Grown
-starts (NotStarted r) buffer = answered (start_number r) (grown buffer 0)
-starts (Empty used) buffer = answered 0 (grown buffer used)
+-- a length in use and the buffer that it is of: where it is refused, it is 0
+abbrev pub grows : Result ℕ Refusal → List ℕ → Answer Grown
+grows (Err r) buffer = answered (number r) (grown buffer 0)
+grows (Ok used) buffer = answered 0 (grown buffer used)

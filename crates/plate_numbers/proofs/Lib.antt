@@ -1,2 +1,3 @@
--- Laws of a plate's numbers.
+-- Laws of a plate's numbers, and of refusals.
 pub mod Versions
+pub mod Refused

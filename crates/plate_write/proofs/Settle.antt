@@ -1,15 +1,17 @@
 -- Laws of what adding answers in each case of its checks.
 use mathlib.Core.Path.{◌≡◌, refl}
-use mathlib.Core.Bool.{true, false}
+use mathlib.Core.Bool.{Bool, true, false}
 use mathlib.Core.List.{List}
 use Prim.Native.Nat.{ℕ}
 use native.Mathlib.Omega.{arith}
 use lib.ListN.{length}
 use Rattle.picture.specs.Answer.{answered, settled}
 use Rattle.picture.specs.Planes.{laid}
-use Rattle.picture.specs.Refusal.{first_else, first_of, wrong_sides, wrong_length}
+use Rattle.picture.specs.Refusal.{number, first_else, first_of, wrong_sides, wrong_length, picture_checks}
+use Rattle.picture.specs.declared.checks.Refusal.{Refusal}
 use Rattle.picture.proofs.Conditions.{each_passes, right_length}
 use Rattle.picture.proofs.Settled.{read}
+use Rattle.plate_numbers.proofs.Refused.{not_done}
 use Rattle.plate.specs.Lookup.{Beside}
 use Rattle.plate_room.specs.Room.{length_after, no_room, in_use, no_plate}
 use Rattle.plate_room.proofs.Room.{in_plate}
@@ -24,24 +26,25 @@ module _ (buffer : List ℕ) (used : ℕ) (picture : List ℕ) (w h : ℕ) (labe
   no_plate_lem p = rw p
 
   module _ (p : no_plate buffer used label.unit ≡ false) where
-    pub wrong_sides_lem : wrong_sides w h ≡ true → answered 1 (grown buffer 0) ≡ add_outcome buffer used picture w h label
+    -- a picture that checks 1 and 2 refuse
+    pub wrong_picture : (r : Refusal) → number r ≡ first_of (picture_checks (length picture) w h) → answered (number r) (grown buffer 0) ≡ add_outcome buffer used picture w h label
     unfolding add_outcome first_of first_else settled
-    wrong_sides_lem s = rw (p, s)
+    wrong_picture r e = by (wrong_sides w h) refl (wrong_length (length picture) w h) refl
+      where
+        by : (a : Bool) → wrong_sides w h ≡ a → (b : Bool) → wrong_length (length picture) w h ≡ b → answered (number r) (grown buffer 0) ≡ add_outcome buffer used picture w h label
+        by true s b l = let one : number r ≡ 1 = rw s at e in rw (one, p, s)
+        by false s true l = let two : number r ≡ 2 = rw (s, l) at e in rw (two, p, s, l)
+        by false s false l = absurd (not_done r (rw (s, l) at e))
 
-    module _ (s : wrong_sides w h ≡ false) where
-      pub wrong_length_lem : wrong_length (length picture) w h ≡ true → answered 2 (grown buffer 0) ≡ add_outcome buffer used picture w h label
+    module _ (s : wrong_sides w h ≡ false) (l : wrong_length (length picture) w h ≡ false) where
+      pub no_room_lem : no_room (length buffer) (in_use buffer used) w h ≡ true → answered 13 (grown buffer 0) ≡ add_outcome buffer used picture w h label
       unfolding add_outcome first_of first_else settled
-      wrong_length_lem l = rw (p, s, l)
+      no_room_lem r = rw (p, s, l, r)
 
-      module _ (l : wrong_length (length picture) w h ≡ false) where
-        pub no_room_lem : no_room (length buffer) (in_use buffer used) w h ≡ true → answered 13 (grown buffer 0) ≡ add_outcome buffer used picture w h label
-        unfolding add_outcome first_of first_else settled
-        no_room_lem r = rw (p, s, l, r)
-
-        pub add_done : no_room (length buffer) (in_use buffer used) w h ≡ false →
-            answered 0 (grown (laid (added (in_use buffer used) w h label picture) buffer) (length_after (in_use buffer used) w h)) ≡ add_outcome buffer used picture w h label
-        unfolding add_outcome first_of first_else settled
-        add_done r = rw (p, s, l, r)
+      pub add_done : no_room (length buffer) (in_use buffer used) w h ≡ false →
+          answered 0 (grown (laid (added (in_use buffer used) w h label picture) buffer) (length_after (in_use buffer used) w h)) ≡ add_outcome buffer used picture w h label
+      unfolding add_outcome first_of first_else settled
+      add_done r = rw (p, s, l, r)
 
 -- a call that answers 0 passed every check, and leaves the plate with one picture more
 pub record Accepted (buffer : List ℕ) (used : ℕ) (picture : List ℕ) (w h : ℕ) (label : Beside) (left : Grown) : Type 0 where

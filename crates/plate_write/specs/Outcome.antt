@@ -7,10 +7,6 @@ use Rattle.plate.specs.Lookup.{Beside}
 use Rattle.plate_room.specs.Room.{in_use, no_plate, length_after, no_room}
 use Rattle.plate_empty.specs.Outcome.{Grown, grown}
 use Rattle.plate_write.specs.Added.{added}
-use Rattle.plate_write.specs.declared.AddRefusal.{AddRefusal}
-use Rattle.plate_write.specs.declared.AddRefusal.TheVariants.{BrokenPlate, WrongSides, WrongLength, NoRoom}
-use Rattle.plate_write.specs.declared.Added.{Added}
-use Rattle.plate_write.specs.declared.Added.TheVariants.{Refused, InUse}
 
 -- adding a picture: 10, then 1 and 2, then 13
 abbrev pub add_checks : List ℕ → ℕ → ℕ → ℕ → ℕ → ℕ → List Check
@@ -24,15 +20,3 @@ add_outcome buffer used picture w h label =
     (first_of (add_checks buffer used (length picture) w h label.unit))
     (grown buffer 0)
     (grown (laid (added (in_use buffer used) w h label picture) buffer) (length_after (in_use buffer used) w h))
-
--- the number of each refusal
-abbrev pub add_number : AddRefusal → ℕ
-add_number BrokenPlate = 10
-add_number WrongSides = 1
-add_number WrongLength = 2
-add_number NoRoom = 13
-
--- an answer and the buffer that it leaves: a refused length is 0
-abbrev pub adds : Added → List ℕ → Answer Grown
-adds (Refused r) buffer = answered (add_number r) (grown buffer 0)
-adds (InUse used) buffer = answered 0 (grown buffer used)

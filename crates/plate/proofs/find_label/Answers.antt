@@ -1,15 +1,24 @@
 -- Refused, and both are 0; or the entry's unit and sheet.
+use mathlib.Core.Path.{ap}
+use native.Mathlib.Omega.{arith}
+use Rattle.std.proofs.lemmas.Result.{err_from_is_err_and}
+use Rattle.plate_numbers.proofs.Refused.{not_done}
+use Rattle.plate_format.specs.declared.Entry.{Entry}
 use Rattle.plate.specs.Lookup.{labelled_up_to}
-use Rattle.plate.proofs.Settle.{refuses, unlisted, listed, unit_named}
+use Rattle.plate.proofs.Settle.{unlisted, listed, unit_named}
 use Rattle.plate.proofs.find_label.Goals as goal
 
-pub unit_of-requires : goal.unit_of-requires
-unit_of-requires c = let f = rw c.in-Listed.is at c.entry_of.ensures in rw f.2 (unit_named _ _ f.0 f.1)
-
-pub returns-in-Unlisted : goal.returns-in-Unlisted
+pub returns-in_err-entry : goal.returns-in_err-entry
 unfolding labelled_up_to
-returns-in-Unlisted c = unlisted _ _ _ _ _ (refuses c.in-Unlisted.r) (rw c.in-Unlisted.is at c.entry_of.ensures)
+returns-in_err-entry c =
+    let p = err_from_is_err_and c.from_residual.result c.from_residual.ensures.1 in
+    rw (p.1, p.2) (unlisted _ _ _ _ _ (not_done _) c.in_err-entry.ensures)
 
-pub returns-in-Listed : goal.returns-in-Listed
+pub returns-in_err-unit : goal.returns-in_err-unit
+returns-in_err-unit c =
+    let f = c.in_ok-entry.ensures in
+    let z : ⊥ = omega (arith, c.in_err-unit.ensures, ap (λ (e : Entry). e.unit) f.2, unit_named _ _ f.0 f.1) in absurd z
+
+pub returns : goal.returns
 unfolding labelled_up_to
-returns-in-Listed c = let f = rw c.in-Listed.is at c.entry_of.ensures in rw (c.unit_of.ensures, f.2) (listed _ _ _ _ f.0 f.1)
+returns c = let f = c.in_ok-entry.ensures in rw (c.in_ok-unit.ensures, f.2) (listed _ _ _ _ f.0 f.1)

@@ -14,7 +14,7 @@ use Rattle.plate_room.specs.Room.{new_entry, in_use}
 use Rattle.plate_empty.specs.Outcome.{grown}
 use Rattle.plate_write.proofs.Appended.{file_long, tabled, first_low, fits, new_fits, opened, opened_ready, appended, length_is}
 use Rattle.plate_write.proofs.append.Goals as goal
-use Rattle.plate_write.proofs.append.Goals.{After-new_entry-new, After-table_end-end, After-copy_forward}
+use Rattle.plate_write.proofs.append.Goals.{After-new_entry-new, After-table_end-end, After-move_bytes}
 
 pub new_entry-new-requires : goal.new_entry-new-requires
 new_entry-new-requires c = rw (sub-zero c.args.used) (new_fits c.requires)
@@ -47,20 +47,21 @@ overflow_add-end c =
 pub overflow_sub-used : goal.overflow_sub-used
 overflow_sub-used c = omega (arith, end (goal.at.overflow_sub-used c).After-table_end-end, first_low c.requires)
 
-pub copy_forward-requires : goal.copy_forward-requires
-copy_forward-requires c =
+pub move_bytes-requires : goal.move_bytes-requires
+move_bytes-requires c =
     let r = c.requires in
-    (omega arith, omega (arith, start (goal.at.copy_forward-requires c).After-new_entry-new, end (goal.at.copy_forward-requires c).After-table_end-end, first_low r, fits r))
+    let e = end (goal.at.move_bytes-requires c).After-table_end-end in
+    (omega (arith, e, first_low r, r.inside), omega (arith, start (goal.at.move_bytes-requires c).After-new_entry-new, e, first_low r, fits r))
 
 -- the bodies stand one table entry further on
-opens : (c : After-copy_forward) → let a = c.args in let file = in_use a.buffer.now a.used in
+opens : (c : After-move_bytes) → let a = c.args in let file = in_use a.buffer.now a.used in
     c.new_entry-new.result.offset ≡ a.used + entry_size (version file) →
     c.table_end-end.result ≡ body_offset file 0 →
-    c.copy_forward.new.bytes ≡ laid_at (body_offset file 0 + entry_size (version file)) (drop (body_offset file 0) file) a.buffer.now
-opens c s e = opened c.requires s (rw e at c.copy_forward.ensures)
+    c.move_bytes.new.bytes ≡ laid_at (body_offset file 0 + entry_size (version file)) (drop (body_offset file 0) file) a.buffer.now
+opens c s e = opened c.requires s (rw e at c.move_bytes.ensures)
 
 pub retable-requires : goal.retable-requires
-retable-requires c = opened_ready c.requires (opens (goal.at.retable-requires c).After-copy_forward (start (goal.at.retable-requires c).After-new_entry-new) (end (goal.at.retable-requires c).After-table_end-end))
+retable-requires c = opened_ready c.requires (opens (goal.at.retable-requires c).After-move_bytes (start (goal.at.retable-requires c).After-new_entry-new) (end (goal.at.retable-requires c).After-table_end-end))
 
 pub slice_bounds-copy_bytes-end : goal.slice_bounds-copy_bytes-end
 slice_bounds-copy_bytes-end c =
@@ -75,4 +76,4 @@ returns c =
     let r = c.requires in
     let a = c.args in
     let s = start (goal.at.returns c).After-new_entry-new in
-    ap₂ grown (appended r (opens (goal.at.returns c).After-copy_forward (start (goal.at.returns c).After-new_entry-new) (end (goal.at.returns c).After-table_end-end)) (beside a.unit a.sheet) s (rw (entry (goal.at.returns c).After-new_entry-new) at c.retable.ensures) (rw c.copy_bytes.ensures)) (length_is r s)
+    ap₂ grown (appended r (opens (goal.at.returns c).After-move_bytes (start (goal.at.returns c).After-new_entry-new) (end (goal.at.returns c).After-table_end-end)) (beside a.unit a.sheet) s (rw (entry (goal.at.returns c).After-new_entry-new) at c.retable.ensures) (rw c.copy_bytes.ensures)) (length_is r s)
