@@ -14,7 +14,7 @@ use Rattle.picture.specs.Slice.{slice_part}
 use Rattle.picture.proofs.Answers.{undone}
 use Rattle.std.proofs.Common.{Result, Ok, Err}
 use Rattle.picture.specs.declared.checks.Refusal.{Refusal}
-use Rattle.plate_numbers.proofs.Refused.{never_zero, refusal_of, refusal_is}
+use Rattle.picture.proofs.Refused.{answer_of, answer_undone}
 use Rattle.plate.specs.Lookup.{Picture, answers, Beside, unit_number, labels}
 use Rattle.plate.specs.declared.Unit.{Unit}
 use Rattle.plate.specs.declared.Unit.TheVariants.{Unnamed, Milliohm, Microohm}
@@ -29,13 +29,11 @@ use Rattle.plate.proofs.plate_picture.Kinds as part-kinds
 
 -- the answer that has this number and these values
 abbrev back : Answer Picture → Result Found Refusal
-back a =
-    cond (eqb a.number 0)
-    (Ok (record { size = full_size a.left.width a.left.height; stretch = record { offset = a.left.offset; length = a.left.length } }))
-    (Err (refusal_of a.number))
+back a = answer_of a.number (record { size = full_size a.left.width a.left.height; stretch = record { offset = a.left.offset; length = a.left.length } })
 
 back_is : (a : Result Found Refusal) → back (answers a) ≡ a
-back_is (Err r) = rw (never_zero r, refusal_is r)
+unfolding answer_of
+back_is (Err r) = answer_undone r _
 back_is (Ok found) = refl
 
 -- no two answers have the same number and values
@@ -51,7 +49,7 @@ abbrev unit_of : ℕ → Unit
 unit_of number = cond (eqb number 1) Milliohm (cond (eqb number 2) Microohm Unnamed)
 
 abbrev label_back : Answer Beside → Result Label Refusal
-label_back a = cond (eqb a.number 0) (Ok (record { unit = unit_of a.left.unit; sheet = a.left.sheet })) (Err (refusal_of a.number))
+label_back a = answer_of a.number (record { unit = unit_of a.left.unit; sheet = a.left.sheet })
 
 unit_back : (u : Unit) → unit_of (unit_number u) ≡ u
 unit_back Unnamed = refl
@@ -59,7 +57,8 @@ unit_back Milliohm = refl
 unit_back Microohm = refl
 
 label_back_is : (a : Result Label Refusal) → label_back (labels a) ≡ a
-label_back_is (Err r) = rw (never_zero r, refusal_is r)
+unfolding answer_of
+label_back_is (Err r) = answer_undone r _
 label_back_is (Ok l) = rw (unit_back l.unit)
 
 pub labels_once : (a b : Result Label Refusal) → labels a ≡ labels b → a ≡ b

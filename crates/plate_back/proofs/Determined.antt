@@ -10,7 +10,7 @@ use lib.Dec.{eqb}
 use Rattle.picture.specs.Answer.{Answer}
 use Rattle.std.proofs.Common.{Result, Ok, Err}
 use Rattle.picture.specs.declared.checks.Refusal.{Refusal}
-use Rattle.plate_numbers.proofs.Refused.{never_zero, refusal_of, refusal_is}
+use Rattle.picture.proofs.Refused.{answer_of, answer_undone}
 use Rattle.plate_empty.specs.Outcome.{Grown, grows}
 use Rattle.plate_empty.proofs.plate_start.Reads as start
 use Rattle.plate_empty.proofs.plate_start.Kinds as start-kinds
@@ -19,10 +19,11 @@ use Rattle.plate_write.proofs.plate_add.Kinds as add-kinds
 
 -- an answer can be read back from what it comes to with the buffer that it leaves
 abbrev back : Answer Grown → Result ℕ Refusal
-back a = cond (eqb a.number 0) (Ok a.left.used) (Err (refusal_of a.number))
+back a = answer_of a.number a.left.used
 
 back_is : (r : Result ℕ Refusal) (b : List ℕ) → back (grows r b) ≡ r
-back_is (Err r) b = rw (never_zero r, refusal_is r)
+unfolding answer_of
+back_is (Err r) b = answer_undone r _
 back_is (Ok used) b = refl
 
 leaves : (r : Result ℕ Refusal) (b : List ℕ) → (grows r b).left.buffer ≡ b

@@ -11,7 +11,7 @@ use Rattle.picture.specs.Refusal.{number, first_else, first_of, wrong_sides, wro
 use Rattle.picture.specs.declared.checks.Refusal.{Refusal}
 use Rattle.picture.proofs.Conditions.{each_passes, right_length}
 use Rattle.picture.proofs.Settled.{read}
-use Rattle.plate_numbers.proofs.Refused.{not_done}
+use Rattle.picture.proofs.Refused.{number_some}
 use Rattle.plate.specs.Lookup.{Beside}
 use Rattle.plate_room.specs.Room.{length_after, no_room, in_use, no_plate}
 use Rattle.plate_room.proofs.Room.{in_plate}
@@ -34,7 +34,7 @@ module _ (buffer : List ℕ) (used : ℕ) (picture : List ℕ) (w h : ℕ) (labe
         by : (a : Bool) → wrong_sides w h ≡ a → (b : Bool) → wrong_length (length picture) w h ≡ b → answered (number r) (grown buffer 0) ≡ add_outcome buffer used picture w h label
         by true s b l = let one : number r ≡ 1 = rw s at e in rw (one, p, s)
         by false s true l = let two : number r ≡ 2 = rw (s, l) at e in rw (two, p, s, l)
-        by false s false l = absurd (not_done r (rw (s, l) at e))
+        by false s false l = let z : number r ≡ 0 = rw (s, l) at e in absurd (omega (arith, number_some r))
 
     module _ (s : wrong_sides w h ≡ false) (l : wrong_length (length picture) w h ≡ false) where
       pub no_room_lem : no_room (length buffer) (in_use buffer used) w h ≡ true → answered 13 (grown buffer 0) ≡ add_outcome buffer used picture w h label

@@ -2,17 +2,17 @@
 use mathlib.Core.Path.{ap}
 use native.Mathlib.Omega.{arith}
 use Rattle.std.proofs.lemmas.Result.{err_from_is_err_and}
-use Rattle.plate_numbers.proofs.Refused.{not_done}
+use Rattle.picture.proofs.Refused.{call_refused}
 use Rattle.plate_format.specs.declared.Entry.{Entry}
 use Rattle.plate.specs.Lookup.{labelled_up_to}
-use Rattle.plate.proofs.Settle.{unlisted, listed, unit_named}
+use Rattle.plate.proofs.Settle.{listed, unit_named}
 use Rattle.plate.proofs.find_label.Goals as goal
 
 pub returns-in_err-entry : goal.returns-in_err-entry
 unfolding labelled_up_to
 returns-in_err-entry c =
     let p = err_from_is_err_and c.from_residual.result c.from_residual.ensures.1 in
-    rw (p.1, p.2) (unlisted _ _ _ _ _ (not_done _) c.in_err-entry.ensures)
+    rw (p.1, p.2) (call_refused _ _ _ _ c.in_err-entry.ensures)
 
 pub returns-in_err-unit : goal.returns-in_err-unit
 returns-in_err-unit c =
