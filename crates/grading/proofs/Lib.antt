@@ -1,5 +1,4 @@
 -- Laws of the definitions of specs/, for this crate's proofs and for those above it.
-pub mod Refused
 pub mod Whole
 pub mod Accepted
 pub mod Viewed

@@ -8,4 +8,3 @@ pub mod Relates
 pub mod Forms
 pub mod Lines
 pub mod Lent
-pub mod Refused
