@@ -16,7 +16,7 @@ use Rattle.picture.specs.Refusal.{number_of, first_of}
 use Rattle.picture.specs.declared.checks.Refusal.{Refusal}
 use Rattle.picture.proofs.Settled.{read}
 use Rattle.std.proofs.Common.{Result, Ok}
-use Rattle.passes.proofs.Refused.{answer_once}
+use Rattle.picture.proofs.Refused.{answer_once}
 use Rattle.drop_shadow.specs.Outcome.{shadow_checks, shadow_outcome}
 use Rattle.drop_shadow.specs.Alike.{Terms, outcome_of, AlphaAlike}
 use Rattle.drop_shadow.specs.Shadowed.{shadowed}

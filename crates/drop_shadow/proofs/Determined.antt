@@ -6,7 +6,7 @@ use denote.Triple.Clauses.{AtExit}
 use Rattle.std.proofs.Common.{Result}
 use Rattle.picture.specs.Answer.{Answer, LentCopy}
 use Rattle.picture.specs.declared.checks.Refusal.{Refusal}
-use Rattle.passes.proofs.Refused.{answer_once}
+use Rattle.picture.proofs.Refused.{answer_once}
 use Rattle.drop_shadow.proofs.shadow.Reads as shadow
 use Rattle.drop_shadow.proofs.shadow.Kinds as kinds
 

@@ -8,7 +8,7 @@ use denote.Triple.Clauses.{AtExit}
 use Rattle.std.specs.Prelude.{Result, Ok, Err}
 use Rattle.picture.specs.Answer.{Answer}
 use Rattle.picture.specs.declared.checks.Refusal.{Refusal}
-use Rattle.grading.proofs.Refused.{answer_of, answer_undone}
+use Rattle.picture.proofs.Refused.{answer_of, answer_undone}
 use Rattle.mending.specs.Outcome.{MendLeft, mend_answer}
 use Rattle.mending.proofs.mender.mend.Reads as mend
 use Rattle.mending.proofs.mender.mend.Kinds as mend-kinds

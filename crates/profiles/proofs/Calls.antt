@@ -12,7 +12,7 @@ use Rattle.picture.specs.declared.EdgeMode.TheVariants.{None}
 use Rattle.picture.proofs.Answers.{lent_once}
 use Rattle.picture.proofs.Settled.{read}
 use Rattle.binary32.specs.Grid.{sum}
-use Rattle.passes.proofs.Refused.{answer_once}
+use Rattle.picture.proofs.Refused.{answer_once}
 use Rattle.kept.proofs.Left.{either_way}
 use Rattle.gaussian_blur.specs.Outcome.{blur_outcome}
 use Rattle.exact_blur.specs.Exact.{exact_blur}

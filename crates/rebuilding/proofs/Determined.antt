@@ -8,7 +8,7 @@ use denote.Triple.Clauses.{AtExit}
 use Rattle.std.specs.Prelude.{Result}
 use Rattle.picture.specs.Answer.{Answer}
 use Rattle.picture.specs.declared.checks.Refusal.{Refusal}
-use Rattle.grading.proofs.Refused.{number_of_once}
+use Rattle.picture.proofs.Refused.{number_of_once}
 use Rattle.rebuilding.proofs.rebuilder.rebuild.Reads as rebuild
 use Rattle.rebuilding.proofs.rebuilder.rebuild.Kinds as rebuild-kinds
 

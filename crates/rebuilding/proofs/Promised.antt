@@ -18,7 +18,7 @@ use Rattle.picture.specs.declared.checks.Refusal.{Refusal}
 use Rattle.pixels.specs.Channels.{exceeds_at}
 use Rattle.pixels.proofs.Painting.{at}
 use Rattle.grading.specs.declared.premultiplied.Place.{Place}
-use Rattle.grading.proofs.Refused.{number_of_once}
+use Rattle.picture.proofs.Refused.{number_of_once}
 use Rattle.grading.proofs.Injective.{finding_injective}
 use Rattle.grading.proofs.premultiplied.check.Reads as check
 use Rattle.grading.proofs.premultiplied.check.Kinds as check-kinds

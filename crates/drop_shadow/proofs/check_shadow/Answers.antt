@@ -2,7 +2,7 @@
 use Rattle.std.proofs.Common.{not, [], ◌∷◌, ◌++◌, arith}
 use Rattle.std.proofs.lemmas.Result.{err_from_is_err_and}
 use Rattle.picture.specs.Refusal.{number_of, first_else, first_of, check, picture_checks, too_deep, wrong_edge}
-use Rattle.passes.proofs.Refused.{number_some, group_refuses}
+use Rattle.picture.proofs.Refused.{number_some, group_refuses}
 use Rattle.gaussian_blur.specs.Outcome.{kernel_checks}
 use Rattle.drop_shadow.specs.Outcome.{not_finite, wrong_colour}
 use Rattle.drop_shadow.proofs.check_shadow.Goals as goal

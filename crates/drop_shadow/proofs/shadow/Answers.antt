@@ -3,7 +3,7 @@ use mathlib.Core.Path.{sym}
 use Rattle.std.proofs.lemmas.Result.{err_from_is_err_and}
 use Rattle.picture.specs.Refusal.{number_of}
 use Rattle.picture.proofs.Answers.{done}
-use Rattle.passes.proofs.Refused.{call_refused}
+use Rattle.picture.proofs.Refused.{call_refused}
 use Rattle.drop_shadow.specs.Outcome.{shadow_outcome}
 use Rattle.drop_shadow.proofs.Accepted.{accepted}
 use Rattle.drop_shadow.proofs.shadow.Goals as goal
