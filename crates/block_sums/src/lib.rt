@@ -79,10 +79,8 @@ fn convolve_strip(
         taps / 2,
         mode,
     );
-    let mut i = 0;
-    while i < m {
+    for i in 0..m {
         lanes::weigh(dst, (x + i) * stride + from, n, line, i * n, n, weights);
-        i += 1;
     }
 }
 
@@ -107,7 +105,7 @@ fn convolve_strips(
 {
     let mut from = 0;
     while from < stride {
-        let n = picture::least(LANES, stride - from);
+        let n = LANES.min(stride - from);
         convolve_strip(
             line, src, start, dst, len, stride, x, m, from, n, weights, mode,
         );

@@ -6,9 +6,9 @@ use native.Mathlib.Nat.{add-mul, mul-le-mul_right, div-add-mod', div-lt_iff_lt-m
 use native.Mathlib.Omega.{arith}
 use lib.Ieee.{of_int, round}
 use lib.ListN.{get_or}
+use Rattle.std.proofs.Common.{Option}
 use Rattle.picture.specs.declared.EdgeMode.{EdgeMode}
 use Rattle.picture.specs.Planes.{Line}
-use Rattle.edges.specs.declared.At.{At}
 use Rattle.edges.specs.Edges.{place, value_at, sample}
 use Rattle.edges.proofs.Samples.{sample_near}
 use Rattle.passes.specs.Written.{lane}
@@ -17,9 +17,9 @@ use Rattle.lanes.specs.Lanes.{widened}
 use Rattle.blocks.specs.Blocks.{block_value}
 
 -- a sample whose place is known
-pub placed : (mode : EdgeMode) (s c d : ℕ) (line : Line) {p : At} → place mode s c d ≡ p → value_at p line ≡ sample mode s line c d
+pub placed : (mode : EdgeMode) (s c d : ℕ) (line : Line) {p : Option ℕ} → place mode s c d ≡ p → value_at p line ≡ sample mode s line c d
 unfolding sample
-placed mode s c d line e = ap (λ (p : At). value_at p line) (sym e)
+placed mode s c d line e = ap (λ (p : Option ℕ). value_at p line) (sym e)
 
 -- no sample is a zero
 pub nothing : widened 0 ≡ zero32

@@ -10,15 +10,7 @@ ghost use Rattle.passes.specs.Written.{lane};
 ghost use Rattle.lanes.specs.Lanes.{widened};
 ghost use Rattle.blocks.specs.Blocks.{block_value, Made};
 
-use edges::At;
 use picture::EdgeMode;
-
-// a - b, or 0 where b is more.
-fn excess(a: usize, b: usize) -> usize
-    ensures { result ≡ a - b }
-{
-    if b < a { a - b } else { 0 }
-}
 
 // Of the element that c - d reads, n lanes from lane `from` on, as floats into line from a on: zeros where there is no such element.
 fn fill_element(
@@ -41,8 +33,8 @@ fn fill_element(
     ensures { Run nan line.old line.new a n (λ k. widened (sample mode len (lane src.now start stride (from + k)) c d)) }
 {
     match edges::extend(c, d, len, mode) {
-        At::Inside(i) => lanes::widen(line, a, n, src, start + i * stride + from),
-        At::Outside => lanes::clear(line, a, n),
+        Some(i) => lanes::widen(line, a, n, src, start + i * stride + from),
+        None => line[a..a + n].fill(0.0),
     }
 }
 
@@ -67,8 +59,7 @@ pub fn fill(
     requires fact_4 { Reach len (x + last) d }
     ensures { Made nan (block_value mode src.now start len stride from n x d) (λ t. (first * n ≤ t) × (t < last * n)) line.old line.new }
 {
-    let mut e = first;
-    while e < last {
+    for e in first..last {
         fill_element(
             line,
             e * n,
@@ -82,7 +73,6 @@ pub fn fill(
             d,
             mode,
         );
-        e += 1;
     }
 }
 
@@ -105,8 +95,8 @@ pub fn fill_whole(
     requires fact_4 { Reach len (x + count) d }
     ensures { Made nan (block_value mode src.now start len stride 0 stride x d) (λ t. t < count * stride) line.old line.new }
 {
-    let low = excess(d, x);
-    let high = picture::least(count, len + d - x);
+    let low = d.saturating_sub(x);
+    let high = count.min(len + d - x);
     fill(line, stride, 0, low, src, start, len, stride, 0, x, d, mode);
     lanes::widen(
         line,

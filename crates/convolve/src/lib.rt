@@ -46,7 +46,7 @@ fn convolve_line(
 {
     let mut x = 0;
     while x < len {
-        let m = picture::least(most, len - x);
+        let m = most.min(len - x);
         block_sums::convolve_block(line, src, start, dst, len, stride, x, m, weights, mode);
         x += m;
     }
@@ -68,8 +68,7 @@ fn each_line(
     requires fact_2 { BlockRoom line.old stride most }
     ensures { dst.new ≡ passed (convolve mode weights.now) src.now lines len len stride }
 {
-    let mut y = 0;
-    while y < lines {
+    for y in 0..lines {
         let size = len * stride;
         let o = y * size;
         convolve_line(
@@ -83,7 +82,6 @@ fn each_line(
             weights,
             mode,
         );
-        y += 1;
     }
 }
 
@@ -103,8 +101,7 @@ fn convolve_short(
     ensures { dst.new ≡ passed (convolve mode weights.now) src.now lines len len stride }
 {
     let mut line = [0.0f32; SHORT];
-    let mut y = 0;
-    while y < lines {
+    for y in 0..lines {
         let size = len * stride;
         let start = y * size;
         block_sums::convolve_whole(
@@ -119,7 +116,6 @@ fn convolve_short(
             weights,
             mode,
         );
-        y += 1;
     }
 }
 
@@ -136,7 +132,7 @@ fn convolve_long(
     requires { ConvolveLines src.now dst.old weights.now lines len stride }
     ensures { dst.new ≡ passed (convolve mode weights.now) src.now lines len len stride }
 {
-    let most = BLOCK / picture::least(stride, block_sums::WHOLE);
+    let most = BLOCK / stride.min(block_sums::WHOLE);
     let mut line = [0.0f32; LINE];
     each_line(&mut line, src, dst, lines, len, stride, most, weights, mode);
 }
@@ -188,7 +184,7 @@ fn convolve_turned(
 fn pays(len: usize, lines: usize, lanes: usize, taps: usize) -> bool {
     let free = if lanes == 1 { 11 } else { 8 };
     if len / 8 + 1 < lines {
-        len - picture::least(len, free) <= taps
+        len.saturating_sub(free) <= taps
     } else {
         false
     }

@@ -6,9 +6,9 @@ use native.Mathlib.Nat.{add-mul, add-zero, zero-add, mod-eq_of_lt, div-eq_of_lt,
 use native.Mathlib.Numerals.{add-one}
 use native.Mathlib.Omega.{arith}
 use lib.ListN.{length, get_or}
+use Rattle.std.proofs.Common.{Some, None}
 use Rattle.picture.specs.declared.EdgeMode.{EdgeMode}
 use Rattle.picture.specs.Spans.{Run}
-use Rattle.edges.specs.declared.At.TheVariants.{Inside, Outside}
 use Rattle.edges.specs.Edges.{place, sample}
 use Rattle.edges.proofs.Samples.{sample_near}
 use Rattle.binary32.specs.Taps.{sum_to}
@@ -52,7 +52,7 @@ module _ (mode : EdgeMode) (src : List ℕ) (start len stride from c d i : ℕ) 
     lane_one : sample mode len (lane src start stride (from + i)) c d ≡ lane_sample
     lane_one = rw (mod-eq_of_lt l, div-eq_of_lt l, add-zero)
 
-    pub lane_inside : (j : ℕ) → place mode len c d ≡ Inside j → get_or src (start + (j * stride + from) + i) 0 ≡ lane_sample
+    pub lane_inside : (j : ℕ) → place mode len c d ≡ Some j → get_or src (start + (j * stride + from) + i) 0 ≡ lane_sample
     unfolding sample
     lane_inside j e =
         let at : start + (j * stride + from) + i ≡ start + j * stride + (from + i) = omega arith in
@@ -61,7 +61,7 @@ module _ (mode : EdgeMode) (src : List ℕ) (start len stride from c d i : ℕ) 
         found : lane src start stride (from + i) j ≡ sample mode len (lane src start stride (from + i)) c d
         found = rw e
 
-    pub lane_outside : place mode len c d ≡ Outside → 0 ≡ lane_sample
+    pub lane_outside : place mode len c d ≡ None → 0 ≡ lane_sample
     unfolding sample
     lane_outside e = found ∙ lane_one
       where

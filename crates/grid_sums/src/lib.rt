@@ -8,7 +8,6 @@ ghost use Rattle.passes.specs.Written.{lane};
 ghost use Rattle.grid_sums.specs.Sums.{heavy, grid_sum, whole_convolve};
 ghost use Rattle.grid_sums.specs.Room.{most_sum, sum_room, Numerators, TapRun, SumRun};
 
-use edges::At;
 use picture::EdgeMode;
 
 // Whether numerators sum to more than 65536. It stops there, so that the sum of any list has room.
@@ -16,27 +15,13 @@ pub fn is_heavy(numerators: &[u32]) -> bool
     ensures { result ≡ heavy numerators.now }
 {
     let mut total: u64 = 0;
-    let mut i = 0;
-    while i < numerators.len() {
-        total += numerators[i] as u64;
+    for numerator in numerators {
+        total += *numerator as u64;
         if 65536 < total {
             return true;
         }
-        i += 1;
     }
     false
-}
-
-// The first n sums of acc are zero.
-fn clear_sums(acc: &mut [u32], n: usize)
-    requires { n ≤ length acc.old }
-    ensures { Run 0 acc.old acc.new 0 n (λ _. 0) }
-{
-    let mut i = 0;
-    while i < n {
-        acc[i] = 0;
-        i += 1;
-    }
 }
 
 // A byte in a weight of 16 bits: the processors' vectors multiply such a pair at once, and one of 32 bits not.
@@ -53,10 +38,8 @@ fn add_lanes(acc: &mut [u32], n: usize, src: &[u8], a: usize, k: u16)
     requires fact_3 { ((i : ℕ) → i < n → get_or acc.old i 0 ≤ sum_room) }
     ensures { Run 0 acc.old acc.new 0 n (λ i. get_or acc.old i 0 + get_or src.now (a + i) 0 * k) }
 {
-    let mut i = 0;
-    while i < n {
+    for i in 0..n {
         acc[i] = acc[i] + weigh_byte(src[a + i], k);
-        i += 1;
     }
 }
 
@@ -115,8 +98,8 @@ fn add_sample(
         add_tap(acc, n, src, start + ((c - d) * stride + from), k);
     } else {
         match edges::extend(c, d, len, mode) {
-            At::Inside(i) => add_tap(acc, n, src, start + (i * stride + from), k),
-            At::Outside => {}
+            Some(i) => add_tap(acc, n, src, start + (i * stride + from), k),
+            None => {}
         }
     }
 }
@@ -140,10 +123,9 @@ fn add_taps(
     requires fact_3 { SumRun src.now start len stride x from n inner (length numerators.now) }
     ensures { (i : ℕ) → i < n → get_or acc.new i 0 ≡ grid_sum mode numerators.now len (lane src.now start stride ((from + i) % stride)) (x + (from + i) / stride) }
 {
-    clear_sums(acc, n);
+    acc[..n].fill(0);
     let d = numerators.len() / 2;
-    let mut j = 0;
-    while j < numerators.len() {
+    for j in 0..numerators.len() {
         add_sample(
             acc,
             n,
@@ -158,7 +140,6 @@ fn add_taps(
             numerators[j],
             mode,
         );
-        j += 1;
     }
 }
 
@@ -169,10 +150,8 @@ fn round_sums(dst: &mut [u8], o: usize, n: usize, acc: &[u32])
     requires fact_3 { ((i : ℕ) → i < n → get_or acc.now i 0 ≤ most_sum) }
     ensures { Run 0 dst.old dst.new o n (λ i. (get_or acc.now i 0 + 32768) / 65536) }
 {
-    let mut i = 0;
-    while i < n {
+    for i in 0..n {
         dst[o + i] = ((acc[i] + 32768) / 65536) as u8;
-        i += 1;
     }
 }
 

@@ -19,22 +19,8 @@ pub fn widen(line: &mut [f32], a: usize, n: usize, src: &[u8], s: usize)
     requires fact_2 { s + n ≤ length src.now }
     ensures { Run nan line.old line.new a n (λ i. widened (get_or src.now (s + i) 0)) }
 {
-    let mut i = 0;
-    while i < n {
+    for i in 0..n {
         line[a + i] = src[s + i] as f32;
-        i += 1;
-    }
-}
-
-// n zeros into line from a on: what samples outside read.
-pub fn clear(line: &mut [f32], a: usize, n: usize)
-    requires { a + n ≤ length line.old }
-    ensures { Run nan line.old line.new a n (λ _. zero32) }
-{
-    let mut i = 0;
-    while i < n {
-        line[a + i] = 0.0;
-        i += 1;
     }
 }
 
@@ -44,10 +30,8 @@ fn add_tap(acc: &mut [f32], n: usize, line: &[f32], a: usize, k: f32)
     requires fact_2 { a + n ≤ length line.now }
     ensures { Run nan acc.old acc.new 0 n (λ i. add_tap (get_or acc.old i nan) (get_or line.now (a + i) nan) k) }
 {
-    let mut i = 0;
-    while i < n {
+    for i in 0..n {
         acc[i] = acc[i] + line[a + i] * k;
-        i += 1;
     }
 }
 
@@ -58,11 +42,9 @@ fn sums(acc: &mut [f32], n: usize, line: &[f32], a: usize, step: usize, weights:
     requires fact_2 { Reaches line.now weights.now a step n }
     ensures { (i : ℕ) → i < n → get_or acc.new i nan ≡ lane_sum line.now a step weights.now (length weights.now) i }
 {
-    clear(acc, 0, n);
-    let mut j = 0;
-    while j < weights.len() {
+    acc[..n].fill(0.0);
+    for j in 0..weights.len() {
         add_tap(acc, n, line, a + j * step, weights[j]);
-        j += 1;
     }
 }
 
@@ -73,10 +55,8 @@ fn round_lanes(dst: &mut [u8], o: usize, n: usize, acc: &[f32])
     requires fact_3 { ((i : ℕ) → i < n → T (nonneg (get_or acc.now i nan))) }
     ensures { Run 0 dst.old dst.new o n (λ i. to_byte (get_or acc.now i nan)) }
 {
-    let mut i = 0;
-    while i < n {
+    for i in 0..n {
         dst[o + i] = binary32::round_channel(acc[i]);
-        i += 1;
     }
 }
 

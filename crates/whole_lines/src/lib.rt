@@ -43,17 +43,17 @@ fn run_at(len: usize, stride: usize, taps: usize, p: usize) -> LineRun
     if d <= x {
         if x + after < len {
             return LineRun {
-                x: x,
-                from: from,
-                n: picture::least(LANES, (len - after) * stride - p),
+                x,
+                from,
+                n: LANES.min((len - after) * stride - p),
                 inner: true,
             };
         }
     }
     LineRun {
-        x: x,
-        from: from,
-        n: picture::least(LANES, stride - from),
+        x,
+        from,
+        n: LANES.min(stride - from),
         inner: false,
     }
 }
@@ -116,11 +116,9 @@ fn whole_lines(
 {
     let mut acc = [0u32; LANES];
     let size = len * stride;
-    let mut y = 0;
-    while y < lines {
+    for y in 0..lines {
         let o = y * size;
         whole_line(&mut acc, src, o, dst, o, len, stride, numerators, mode);
-        y += 1;
     }
 }
 
@@ -157,7 +155,7 @@ fn whole_bands(
     let most = BAND / w + 1;
     let mut y = 0;
     while y < h {
-        let rows = picture::least(most, h - y);
+        let rows = most.min(h - y);
         let start = y * size;
         let n = rows * size;
         whole_turned(
@@ -178,7 +176,7 @@ fn whole_bands(
 fn pays(len: usize, lines: usize, taps: usize) -> bool
     requires { (0 < lines) × (0 < taps) }
 {
-    len / taps / taps < picture::least(lines - 1, 3)
+    len / taps / taps < (lines - 1).min(3)
 }
 
 // The rows of a level, convolved into scratch.

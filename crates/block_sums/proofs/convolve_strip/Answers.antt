@@ -23,7 +23,7 @@ module _ (c : In-loop-i) where
   ends : let a = c.args in (a.x + c.loop-i.i) * a.stride + a.from + a.n ≤ length c.loop-i.dst
   ends =
       let r = c.requires in
-      omega (arith, within 0 c.args.stride (c.args.x + c.loop-i.i) c.args.len (omega (arith, c.loop-i-test.true, r.fact_2.1)), r.fact_3, r.fact_5.1, c.loop-i.invariant.1)
+      omega (arith, within 0 c.args.stride (c.args.x + c.loop-i.i) c.args.len (omega (arith, c.loop-i-test.true, r.fact_2.1)), r.fact_3, r.fact_5.1, c.loop-i.invariant.0)
 
   turn : let a = c.args in c.loop-i.i * a.n + a.n ≤ a.m * a.n
   turn = let a = c.args in omega (arith, within 0 a.n c.loop-i.i a.m c.loop-i-test.true)
@@ -43,7 +43,7 @@ fill-requires c =
     }
 
 pub loop-i-init : goal.loop-i-init
-loop-i-init c = (omega arith, refl, (λ mode f. made_none (λ j r. omega arith)))
+loop-i-init c = (refl, (λ mode f. made_none (λ j r. omega arith)))
 
 pub weigh-requires : goal.weigh-requires
 weigh-requires c =
@@ -66,10 +66,9 @@ loop-i-preserved c =
     let a = c.args in
     let i = c.loop-i.i in
     let n = c.requires.fact_5 in (
-      omega arith,
-      c.weigh.auto.dst ∙ c.loop-i.invariant.1,
+      c.weigh.auto.dst ∙ c.loop-i.invariant.0,
       (λ mode f.
-          made_join (λ j. j / a.stride) (a.x + i) (c.loop-i.invariant.2 mode f)
+          made_join (λ j. j / a.stride) (a.x + i) (c.loop-i.invariant.1 mode f)
           (made_run c.weigh.ensures
           (λ k h. lane_byte f c.requires.fact_1.kernel n.0 i k refl (omega (arith, turn t)) _ (strip_at a.stride a.x i a.from a.n n.1 k h)))
           (λ j r u. omega arith)
@@ -77,7 +76,7 @@ loop-i-preserved c =
     )
 
 pub returns : goal.returns
-returns c = made_in (c.loop-i.invariant.2 c.args.mode (filled (goal.at.returns c).After-fill)) (λ j r. omega arith)
+returns c = made_in (c.loop-i.invariant.1 c.args.mode (filled (goal.at.returns c).After-fill)) (λ j r. omega arith)
 
 pub overflow_sub-more : goal.overflow_sub-more
 overflow_sub-more c = omega (arith, few_taps _ c.requires.fact_1.kernel.counted)
@@ -101,4 +100,4 @@ pub shape_of-line : goal.shape_of-line
 shape_of-line c = c.fill.auto.line
 
 pub shape_of-dst : goal.shape_of-dst
-shape_of-dst c = c.loop-i.invariant.1
+shape_of-dst c = c.loop-i.invariant.0

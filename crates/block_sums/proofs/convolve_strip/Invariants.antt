@@ -9,10 +9,6 @@ use Rattle.block_sums.proofs.convolve_strip.Given as goal
 
 -- the loop does not know the edge rule: it holds of any by which the line is filled
 abbrev pub invariant-loop-i : goal.invariant-loop-i
-invariant-loop-i l = (l.i ≤ l.m)
-    × (length l.dst ≡ length l.initial.dst)
+invariant-loop-i l = (length l.dst ≡ length l.initial.dst)
     × ((mode : EdgeMode) → Filled mode l.weights l.src l.start l.len l.stride l.from l.n l.x l.m l.line →
     Convolved mode l.weights l.src l.start l.len l.stride (Strip l.stride l.x (l.x + l.i) l.from (l.from + l.n)) l.initial.dst l.dst)
-
-abbrev pub decreases-loop-i : goal.decreases-loop-i
-decreases-loop-i l = l.m - l.i

@@ -10,13 +10,13 @@ use Rattle.blocks.proofs.fill.Goals as goal
 use Rattle.blocks.proofs.fill.Goals.{In-loop-e}
 
 pub loop-e-init : goal.loop-e-init
-loop-e-init c = (omega arith, c.requires.fact_1.0, refl, made_none (λ t r. omega arith))
+loop-e-init c = (refl, made_none (λ t r. omega arith))
 
 -- the values of element e end within the line
 room : (c : In-loop-e) →
     let a = c.args in c.loop-e.e * a.n + a.n ≤ length c.loop-e.line
 room c =
-    omega (arith, within 0 c.args.n c.loop-e.e c.args.last c.loop-e-test.true, c.requires.fact_1.1, c.loop-e.invariant.2)
+    omega (arith, within 0 c.args.n c.loop-e.e c.args.last c.loop-e-test.true, c.requires.fact_1.1, c.loop-e.invariant.0)
 
 pub fill_element-requires : goal.fill_element-requires
 fill_element-requires c =
@@ -34,20 +34,18 @@ loop-e-preserved c =
     let e = c.loop-e.e in
     let n = a.n in
     let next : (e + 1) * n ≡ e * n + n = omega (arith, add-mul e 1 n, one-mul n) in (
-      omega arith,
-      omega arith,
-      c.fill_element.auto.line ∙ c.loop-e.invariant.2,
-      made_join (λ k. k) (e * n) c.loop-e.invariant.3
+      c.fill_element.auto.line ∙ c.loop-e.invariant.0,
+      made_join (λ k. k) (e * n) c.loop-e.invariant.1
           (made_run c.fill_element.ensures (λ k h. rw (quotient n e k h, remainder n e k h)))
           (λ k r u. omega arith)
           (λ k r u. omega arith),
     )
 
 pub returns : goal.returns
-returns c = let e : c.loop-e.e ≡ c.args.last = omega arith in rw e at c.loop-e.invariant.3
+returns c = let e : c.loop-e.e ≡ c.args.last = omega arith in rw e at c.loop-e.invariant.1
 
 pub overflow_mul-e : goal.overflow_mul-e
 overflow_mul-e c = omega (arith, room (goal.at.overflow_mul-e c).In-loop-e)
 
 pub shape_of-line : goal.shape_of-line
-shape_of-line c = c.loop-e.invariant.2
+shape_of-line c = c.loop-e.invariant.0

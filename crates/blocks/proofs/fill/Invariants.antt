@@ -7,7 +7,4 @@ use Rattle.blocks.specs.Blocks.{block_value, Made}
 use Rattle.blocks.proofs.fill.Given as goal
 
 abbrev pub invariant-loop-e : goal.invariant-loop-e
-invariant-loop-e l = (l.first ≤ l.e) × (l.e ≤ l.last) × (length l.line ≡ length l.initial.line) × Made nan (block_value l.mode l.src l.start l.len l.stride l.from l.n l.x l.d) (λ t. (l.first * l.n ≤ t) × (t < l.e * l.n)) l.initial.line l.line
-
-abbrev pub decreases-loop-e : goal.decreases-loop-e
-decreases-loop-e l = l.last - l.e
+invariant-loop-e l = (length l.line ≡ length l.initial.line) × Made nan (block_value l.mode l.src l.start l.len l.stride l.from l.n l.x l.d) (λ t. (l.first * l.n ≤ t) × (t < l.e * l.n)) l.initial.line l.line

@@ -5,21 +5,21 @@ use native.Mathlib.Omega.{arith}
 use Rattle.blocks.proofs.Progress.{made_none, made_join}
 use Rattle.convolve.proofs.Room.{room_still}
 use Rattle.convolve.proofs.convolve_line.Goals as goal
-use Rattle.convolve.proofs.convolve_line.Goals.{After-least-m}
+use Rattle.convolve.proofs.convolve_line.Goals.{After-min-m}
 
 pub loop-x-init : goal.loop-x-init
 loop-x-init c = (omega arith, refl, refl, made_none (λ j r. omega arith))
 
 -- the elements of a turn
-size : (c : After-least-m) →
-    let m = c.least-m.result in (0 < m) × (c.loop-x.x + m ≤ c.args.len) × (m ≤ c.args.most)
+size : (c : After-min-m) →
+    let m = c.min-m.result in (0 < m) × (c.loop-x.x + m ≤ c.args.len) × (m ≤ c.args.most)
 size c =
-    omega (arith, c.requires.fact_3.some, c.loop-x-test.true, c.least-m.ensures)
+    omega (arith, c.requires.fact_3.some, c.loop-x-test.true, c.min-m.ensures)
 
 pub convolve_block-requires : goal.convolve_block-requires
 convolve_block-requires c =
     let i = c.loop-x.invariant in
-    let n = size (goal.at.convolve_block-requires c).After-least-m in
+    let n = size (goal.at.convolve_block-requires c).After-min-m in
     record {
       fact_1 = c.requires.fact_1;
       fact_2 = n.1;
@@ -31,7 +31,7 @@ pub loop-x-preserved : goal.loop-x-preserved
 loop-x-preserved c =
     let i = c.loop-x.invariant in
     let k = c.convolve_block.auto in (
-      (size (goal.at.loop-x-preserved c).After-least-m).1,
+      (size (goal.at.loop-x-preserved c).After-min-m).1,
       k.line ∙ i.1,
       k.dst ∙ i.2,
       made_join (λ j. j / c.args.stride) c.loop-x.x i.3 c.convolve_block.ensures (λ j r u. u) (λ j r u. (u, r)),
@@ -42,10 +42,10 @@ returns c =
     λ j h. c.loop-x.invariant.3.makes j (omega (arith, c.loop-x-test.false, (div-lt_iff_lt-mul c.requires.fact_1.stride_low).1 h))
 
 pub overflow_add-x : goal.overflow_add-x
-overflow_add-x c = omega (arith, size (goal.at.overflow_add-x c).After-least-m)
+overflow_add-x c = omega (arith, size (goal.at.overflow_add-x c).After-min-m)
 
 pub loop-x-smaller : goal.loop-x-smaller
-loop-x-smaller c = omega (arith, size (goal.at.loop-x-smaller c).After-least-m)
+loop-x-smaller c = omega (arith, size (goal.at.loop-x-smaller c).After-min-m)
 
 pub shape_of-line : goal.shape_of-line
 shape_of-line c = c.loop-x.invariant.1

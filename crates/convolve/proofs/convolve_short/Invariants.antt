@@ -7,7 +7,4 @@ use Rattle.passes.proofs.Written.{Lined}
 use Rattle.convolve.proofs.convolve_short.Given as goal
 
 abbrev pub invariant-loop-y : goal.invariant-loop-y
-invariant-loop-y l = (l.y ≤ l.lines) × (length l.line ≡ 1280) × Lined (convolve l.mode l.weights) l.src l.len l.len l.stride l.initial.dst l.dst l.y
-
-abbrev pub decreases-loop-y : goal.decreases-loop-y
-decreases-loop-y l = l.lines - l.y
+invariant-loop-y l = (length l.line ≡ 1280) × Lined (convolve l.mode l.weights) l.src l.len l.len l.stride l.initial.dst l.dst l.y

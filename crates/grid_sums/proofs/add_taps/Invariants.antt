@@ -6,7 +6,4 @@ use Rattle.grid_sums.proofs.Lanes.{part_sum}
 use Rattle.grid_sums.proofs.add_taps.Given as goal
 
 abbrev pub invariant-loop-j : goal.invariant-loop-j
-invariant-loop-j l = (l.j ≤ length l.numerators) × (length l.acc ≡ length l.initial.acc) × ((i : ℕ) → i < l.n → get_or l.acc i 0 ≡ part_sum l.mode l.numerators l.src l.start l.len l.stride l.x l.from i l.j)
-
-abbrev pub decreases-loop-j : goal.decreases-loop-j
-decreases-loop-j l = length l.numerators - l.j
+invariant-loop-j l = (length l.acc ≡ length l.initial.acc) × ((i : ℕ) → i < l.n → get_or l.acc i 0 ≡ part_sum l.mode l.numerators l.src l.start l.len l.stride l.x l.from i l.j)

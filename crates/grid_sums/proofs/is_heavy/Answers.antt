@@ -8,24 +8,24 @@ use Rattle.grid_sums.proofs.Sums.{sum_rest}
 use Rattle.grid_sums.proofs.is_heavy.Goals as goal
 
 pub overflow_cast-total : goal.overflow_cast-total
-overflow_cast-total c = omega (arith, c.type_inv.numerators c.loop-i.i)
+overflow_cast-total c = omega (arith, c.type_inv.numerators c.loop-numerator.numerator-index)
 
 pub overflow_add-total : goal.overflow_add-total
-overflow_add-total c = omega (arith, c.type_inv.numerators c.loop-i.i)
+overflow_add-total c = omega (arith, c.type_inv.numerators c.loop-numerator.numerator-index)
 
 pub returns-then-total-gt65536 : goal.returns-then-total-gt65536
 unfolding heavy
 returns-then-total-gt65536 c =
     let ms = c.args.numerators.now in
-    sym (lt-ltb 65536 (sum ms) (omega (arith, sum_rest ms c.loop-i.i (omega arith))))
+    sym (lt-ltb 65536 (sum ms) (omega (arith, sum_rest ms c.loop-numerator.numerator-index (omega arith))))
 
-pub loop-i-preserved : goal.loop-i-preserved
-loop-i-preserved c =
-    omega (arith, sum_rest c.args.numerators.now c.loop-i.i (omega arith))
+pub loop-numerator-preserved : goal.loop-numerator-preserved
+loop-numerator-preserved c =
+    omega (arith, sum_rest c.args.numerators.now c.loop-numerator.numerator-index (omega arith))
 
 pub returns : goal.returns
 unfolding heavy sum
 returns c =
     let ms = c.args.numerators.now in
-    let rest : sum (drop c.loop-i.i ms) ≡ 0 = rw (drop_of_length-le ms {i = c.loop-i.i} (omega arith)) in
+    let rest : sum (drop c.loop-numerator.numerator-index ms) ≡ 0 = rw (drop_of_length-le ms {i = c.loop-numerator.numerator-index} (omega arith)) in
     sym (le-ltb 65536 (sum ms) (omega arith))

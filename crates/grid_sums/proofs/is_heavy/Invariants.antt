@@ -5,8 +5,5 @@ use lib.ListN.{length, drop}
 use Rattle.binary32.specs.Grid.{sum}
 use Rattle.grid_sums.proofs.is_heavy.Given as goal
 
-abbrev pub invariant-loop-i : goal.invariant-loop-i
-invariant-loop-i l = (l.i ≤ length l.numerators) × (l.total ≤ 65536) × (l.total + sum (drop l.i l.numerators) ≡ sum l.numerators)
-
-abbrev pub decreases-loop-i : goal.decreases-loop-i
-decreases-loop-i l = length l.numerators - l.i
+abbrev pub invariant-loop-numerator : goal.invariant-loop-numerator
+invariant-loop-numerator l = (l.total ≤ 65536) × (l.total + sum (drop l.numerator-index l.numerators) ≡ sum l.numerators)

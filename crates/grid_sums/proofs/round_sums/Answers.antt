@@ -18,13 +18,13 @@ pub overflow_cast-dst : goal.overflow_cast-dst
 overflow_cast-dst c = omega (arith, small (goal.at.overflow_cast-dst c).In-loop-i)
 
 pub loop-i-preserved : goal.loop-i-preserved
-loop-i-preserved c = (omega arith, span_more c.loop-i.invariant.1 (omega arith) (omega arith) refl refl)
+loop-i-preserved c = span_more c.loop-i.invariant (omega arith) (omega arith) refl refl
 
 pub loop-i-init : goal.loop-i-init
-loop-i-init c = (omega arith, span_none (omega arith))
+loop-i-init c = span_none (omega arith)
 
 pub shape_of-dst : goal.shape_of-dst
-shape_of-dst c = c.loop-i.invariant.1.size
+shape_of-dst c = c.loop-i.invariant.size
 
 pub returns : goal.returns
-returns c = span_ends c.loop-i.invariant.1 refl (omega arith)
+returns c = span_ends c.loop-i.invariant refl (omega arith)

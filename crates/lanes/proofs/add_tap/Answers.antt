@@ -11,13 +11,13 @@ pub loop-i-preserved : goal.loop-i-preserved
 loop-i-preserved c =
     let a = c.args in
     let i = c.loop-i.i in
-    (omega arith, span_more c.loop-i.invariant.1 (omega arith) (omega arith) (omega arith) (ap (λ (s : Float). add_tap s (get_or a.line.now (a.a + i) nan) a.k) (c.loop-i.invariant.1.above i (omega arith))))
+    span_more c.loop-i.invariant (omega arith) (omega arith) (omega arith) (ap (λ (s : Float). add_tap s (get_or a.line.now (a.a + i) nan) a.k) (c.loop-i.invariant.above i (omega arith)))
 
 pub loop-i-init : goal.loop-i-init
-loop-i-init c = (omega arith, span_none (omega arith))
+loop-i-init c = span_none (omega arith)
 
 pub shape_of-acc : goal.shape_of-acc
-shape_of-acc c = c.loop-i.invariant.1.size
+shape_of-acc c = c.loop-i.invariant.size
 
 pub returns : goal.returns
-returns c = span_ends c.loop-i.invariant.1 refl (omega arith)
+returns c = span_ends c.loop-i.invariant refl (omega arith)

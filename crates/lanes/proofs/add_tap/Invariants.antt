@@ -7,7 +7,4 @@ use Rattle.lanes.specs.Lanes.{add_tap}
 use Rattle.lanes.proofs.add_tap.Given as goal
 
 abbrev pub invariant-loop-i : goal.invariant-loop-i
-invariant-loop-i l = (l.i ≤ l.n) × Run nan l.initial.acc l.acc 0 l.i (λ j. add_tap (get_or l.initial.acc j nan) (get_or l.line (l.a + j) nan) l.k)
-
-abbrev pub decreases-loop-i : goal.decreases-loop-i
-decreases-loop-i l = l.n - l.i
+invariant-loop-i l = Run nan l.initial.acc l.acc 0 l.i (λ j. add_tap (get_or l.initial.acc j nan) (get_or l.line (l.a + j) nan) l.k)

@@ -9,13 +9,13 @@ round_channel-requires c =
 
 pub loop-i-preserved : goal.loop-i-preserved
 loop-i-preserved c =
-    (omega arith, span_more c.loop-i.invariant.1 (omega arith) (omega arith) refl c.round_channel.ensures)
+    span_more c.loop-i.invariant (omega arith) (omega arith) refl c.round_channel.ensures
 
 pub loop-i-init : goal.loop-i-init
-loop-i-init c = (omega arith, span_none (omega arith))
+loop-i-init c = span_none (omega arith)
 
 pub shape_of-dst : goal.shape_of-dst
-shape_of-dst c = c.loop-i.invariant.1.size
+shape_of-dst c = c.loop-i.invariant.size
 
 pub returns : goal.returns
-returns c = span_ends c.loop-i.invariant.1 refl (omega arith)
+returns c = span_ends c.loop-i.invariant refl (omega arith)

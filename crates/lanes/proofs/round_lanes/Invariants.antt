@@ -7,7 +7,4 @@ use Rattle.picture.specs.Spans.{Run}
 use Rattle.lanes.proofs.round_lanes.Given as goal
 
 abbrev pub invariant-loop-i : goal.invariant-loop-i
-invariant-loop-i l = (l.i ≤ l.n) × Run 0 l.initial.dst l.dst l.o l.i (λ j. to_byte (get_or l.acc j nan))
-
-abbrev pub decreases-loop-i : goal.decreases-loop-i
-decreases-loop-i l = l.n - l.i
+invariant-loop-i l = Run 0 l.initial.dst l.dst l.o l.i (λ j. to_byte (get_or l.acc j nan))

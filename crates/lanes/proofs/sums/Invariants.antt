@@ -7,7 +7,4 @@ use Rattle.lanes.specs.Lanes.{lane_sum}
 use Rattle.lanes.proofs.sums.Given as goal
 
 abbrev pub invariant-loop-j : goal.invariant-loop-j
-invariant-loop-j l = (l.j ≤ length l.weights) × (length l.acc ≡ length l.initial.acc) × ((i : ℕ) → i < l.n → get_or l.acc i nan ≡ lane_sum l.line l.a l.step l.weights l.j i)
-
-abbrev pub decreases-loop-j : goal.decreases-loop-j
-decreases-loop-j l = length l.weights - l.j
+invariant-loop-j l = (length l.acc ≡ length l.initial.acc) × ((i : ℕ) → i < l.n → get_or l.acc i nan ≡ lane_sum l.line l.a l.step l.weights l.j i)

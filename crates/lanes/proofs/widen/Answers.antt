@@ -5,13 +5,13 @@ use Rattle.lanes.proofs.widen.Goals as goal
 
 pub loop-i-preserved : goal.loop-i-preserved
 loop-i-preserved c =
-    (omega arith, span_more c.loop-i.invariant.1 (omega arith) (omega arith) refl refl)
+    span_more c.loop-i.invariant (omega arith) (omega arith) refl refl
 
 pub loop-i-init : goal.loop-i-init
-loop-i-init c = (omega arith, span_none (omega arith))
+loop-i-init c = span_none (omega arith)
 
 pub shape_of-line : goal.shape_of-line
-shape_of-line c = c.loop-i.invariant.1.size
+shape_of-line c = c.loop-i.invariant.size
 
 pub returns : goal.returns
-returns c = span_ends c.loop-i.invariant.1 refl (omega arith)
+returns c = span_ends c.loop-i.invariant refl (omega arith)

@@ -7,7 +7,4 @@ use Rattle.lanes.specs.Lanes.{widened}
 use Rattle.lanes.proofs.widen.Given as goal
 
 abbrev pub invariant-loop-i : goal.invariant-loop-i
-invariant-loop-i l = (l.i ≤ l.n) × Run nan l.initial.line l.line l.a l.i (λ j. widened (get_or l.src (l.s + j) 0))
-
-abbrev pub decreases-loop-i : goal.decreases-loop-i
-decreases-loop-i l = l.n - l.i
+invariant-loop-i l = Run nan l.initial.line l.line l.a l.i (λ j. widened (get_or l.src (l.s + j) 0))

@@ -26,12 +26,12 @@ overflow_add-x c =
 pub returns-then-x-after : goal.returns-then-x-after
 returns-then-x-after c =
     let a = c.args in
-    inner_run a.len a.stride a.taps a.p c.requires.fact_2.0 c.requires.fact_2.2 _ refl c.if-x-after.true c.if-d-x.true c.least.ensures
+    inner_run a.len a.stride a.taps a.p c.requires.fact_2.0 c.requires.fact_2.2 _ refl c.if-x-after.true c.if-d-x.true c.min.ensures
 
 pub returns : goal.returns
 returns c =
     let a = c.args in
-    edge_run a.len a.stride a.taps a.p c.requires.fact_2.0 c.requires.fact_2.2 c.least-2.ensures
+    edge_run a.len a.stride a.taps a.p c.requires.fact_2.0 c.requires.fact_2.2 c.min-2.ensures
 
 pub overflow_sub-after : goal.overflow_sub-after
 overflow_sub-after c = omega (arith, few_taps _ c.requires.fact_1)

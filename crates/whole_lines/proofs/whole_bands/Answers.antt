@@ -9,26 +9,26 @@ use Rattle.passes.proofs.Lent.{length_lent, lent_at, run_back, lines_more}
 use Rattle.passes.proofs.Written.{lined_none, lined_all}
 use Rattle.grid_sums.proofs.Local.{whole_local}
 use Rattle.whole_lines.proofs.whole_bands.Goals as goal
-use Rattle.whole_lines.proofs.whole_bands.Goals.{After-least-rows}
+use Rattle.whole_lines.proofs.whole_bands.Goals.{After-min-rows}
 
 pub overflow_mul-size : goal.overflow_mul-size
 overflow_mul-size c =
     omega (arith, within 0 (c.args.w * 4) 0 c.args.h c.requires.lined.some, c.requires.lined.src_size, c.well_formed.0.0)
 
 -- the band of a turn has a row at least, and ends within both buffers
-room : (c : After-least-rows) →
+room : (c : After-min-rows) →
     let a = c.args in
     let y = c.loop-y.y in
-    let rows = c.least-rows.result in
+    let rows = c.min-rows.result in
     let end = y * (a.w * 4) + rows * (a.w * 4) in
     (0 < rows) × (y + rows ≤ a.h) × (end ≤ length c.loop-y.picture) × (end ≤ length c.loop-y.scratch) × (length a.picture.now < 2 ^ 64)
 room c =
     let w = c.args.w in
     let y = c.loop-y.y in
-    let rows = c.least-rows.result in
-    let inside : y + rows ≤ c.args.h = omega (arith, c.least-rows.ensures, c.loop-y-test.true) in
+    let rows = c.min-rows.result in
+    let inside : y + rows ≤ c.args.h = omega (arith, c.min-rows.ensures, c.loop-y-test.true) in
     let end : y * (w * 4) + rows * (w * 4) ≤ c.args.h * (w * 4) = omega (arith, scale 0 (w * 4) (y + rows) c.args.h inside, add-mul y rows (w * 4)) in (
-      omega (arith, c.least-rows.ensures, c.loop-y-test.true),
+      omega (arith, c.min-rows.ensures, c.loop-y-test.true),
       inside,
       omega (arith, end, c.loop-y.invariant.1, c.requires.lined.src_size),
       omega (arith, end, c.loop-y.invariant.3.made.size, c.requires.lined.dst_size),
@@ -38,10 +38,10 @@ room c =
 pub whole_turned-requires : goal.whole_turned-requires
 whole_turned-requires c =
     let p = c.requires in
-    let r = room (goal.at.whole_turned-requires c).After-least-rows in
+    let r = room (goal.at.whole_turned-requires c).After-min-rows in
     let size = c.args.w * 4 in
     let o = c.loop-y.y * size in
-    let n = c.least-rows.result * size in
+    let n = c.min-rows.result * size in
     record {
       kernel = p.kernel;
       lined = record {
@@ -59,10 +59,10 @@ loop-y-preserved c =
     let a = c.args in
     let p = c.requires.lined in
     let i = c.loop-y.invariant in
-    let r = room (goal.at.loop-y-preserved c).After-least-rows in
+    let r = room (goal.at.loop-y-preserved c).After-min-rows in
     let size = a.w * 4 in
     let y = c.loop-y.y in
-    let rows = c.least-rows.result in
+    let rows = c.min-rows.result in
     let o = y * size in
     let n = rows * size in
     let last = c.whole_turned.new in
@@ -90,19 +90,19 @@ pub loop-y-init : goal.loop-y-init
 loop-y-init c = (omega arith, refl, (λ j l. refl), lined_none)
 
 pub overflow_mul-start : goal.overflow_mul-start
-overflow_mul-start c = omega (arith, room (goal.at.overflow_mul-start c).After-least-rows)
+overflow_mul-start c = omega (arith, room (goal.at.overflow_mul-start c).After-min-rows)
 
 pub overflow_mul-n : goal.overflow_mul-n
-overflow_mul-n c = omega (arith, room (goal.at.overflow_mul-n c).After-least-rows)
+overflow_mul-n c = omega (arith, room (goal.at.overflow_mul-n c).After-min-rows)
 
 pub overflow_add-start : goal.overflow_add-start
-overflow_add-start c = omega (arith, room (goal.at.overflow_add-start c).After-least-rows)
+overflow_add-start c = omega (arith, room (goal.at.overflow_add-start c).After-min-rows)
 
 pub slice_bounds-whole_turned-end : goal.slice_bounds-whole_turned-end
-slice_bounds-whole_turned-end c = omega (arith, room (goal.at.slice_bounds-whole_turned-end c).After-least-rows)
+slice_bounds-whole_turned-end c = omega (arith, room (goal.at.slice_bounds-whole_turned-end c).After-min-rows)
 
 pub overflow_add-start-in-loop-y : goal.overflow_add-start-in-loop-y
-overflow_add-start-in-loop-y c = omega (arith, room (goal.at.overflow_add-start-in-loop-y c).After-least-rows)
+overflow_add-start-in-loop-y c = omega (arith, room (goal.at.overflow_add-start-in-loop-y c).After-min-rows)
 
 pub slice_bounds-whole_turned-end-in-loop-y : goal.slice_bounds-whole_turned-end-in-loop-y
-slice_bounds-whole_turned-end-in-loop-y c = omega (arith, room (goal.at.slice_bounds-whole_turned-end-in-loop-y c).After-least-rows)
+slice_bounds-whole_turned-end-in-loop-y c = omega (arith, room (goal.at.slice_bounds-whole_turned-end-in-loop-y c).After-min-rows)

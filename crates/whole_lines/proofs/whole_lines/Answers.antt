@@ -18,15 +18,15 @@ ends : (c : In-loop-y) →
     let end = c.loop-y.y * (a.len * a.stride) + a.len * a.stride in
     (end ≤ length c.loop-y.dst) × (end ≤ length a.src.now) × (length a.src.now < 2 ^ 64)
 ends c =
-    let e = line_ends c.loop-y.invariant.2 c.args.lines c.requires.lined.dst_size c.loop-y-test.true in
-    (e, omega (arith, c.loop-y.invariant.2.made.size, c.requires.lined.src_size, c.requires.lined.dst_size), c.well_formed.0.0)
+    let e = line_ends c.loop-y.invariant.1 c.args.lines c.requires.lined.dst_size c.loop-y-test.true in
+    (e, omega (arith, c.loop-y.invariant.1.made.size, c.requires.lined.src_size, c.requires.lined.dst_size), c.well_formed.0.0)
 
 pub whole_line-requires : goal.whole_line-requires
 whole_line-requires c =
     let p = c.requires in
     let e = ends (goal.at.whole_line-requires c).In-loop-y in
     record {
-      fact_1 = omega (arith, c.loop-y.invariant.1);
+      fact_1 = omega (arith, c.loop-y.invariant.0);
       fact_2 = p.lined.stride_low;
       fact_3 = record { len_low = p.lined.len_low; len_high = p.lined.len_high; src_ends = e.1; dst_ends = e.0 };
       fact_4 = p.kernel;
@@ -34,21 +34,21 @@ whole_line-requires c =
 
 pub loop-y-preserved : goal.loop-y-preserved
 loop-y-preserved c =
-    (omega (arith, c.loop-y-test.true), c.whole_line.auto.acc ∙ c.loop-y.invariant.1, lined_more c.loop-y.invariant.2 c.whole_line.ensures)
+    (c.whole_line.auto.acc ∙ c.loop-y.invariant.0, lined_more c.loop-y.invariant.1 c.whole_line.ensures)
 
 pub returns : goal.returns
-returns c = lined_all c.loop-y.invariant.2 c.args.lines c.requires.lined.dst_size (omega arith)
+returns c = lined_all c.loop-y.invariant.1 c.args.lines c.requires.lined.dst_size (omega arith)
 
 pub loop-y-init : goal.loop-y-init
-loop-y-init c = (omega arith, length-replicate {A = ℕ} sum_lanes 0, lined_none)
+loop-y-init c = (length-replicate {A = ℕ} sum_lanes 0, lined_none)
 
 pub overflow_mul-o : goal.overflow_mul-o
 overflow_mul-o c =
     let l = c.requires.lined in
-    omega (arith, line_ends c.loop-y.invariant.2 c.args.lines l.dst_size c.loop-y-test.true, c.loop-y.invariant.2.made.size, l.src_size, l.dst_size, c.well_formed.0.0)
+    omega (arith, line_ends c.loop-y.invariant.1 c.args.lines l.dst_size c.loop-y-test.true, c.loop-y.invariant.1.made.size, l.src_size, l.dst_size, c.well_formed.0.0)
 
 pub slice_bounds-whole_line-end : goal.slice_bounds-whole_line-end
-slice_bounds-whole_line-end c = sym c.loop-y.invariant.1
+slice_bounds-whole_line-end c = sym c.loop-y.invariant.0
 
 pub shape_of-dst : goal.shape_of-dst
-shape_of-dst c = c.loop-y.invariant.2.made.size
+shape_of-dst c = c.loop-y.invariant.1.made.size

@@ -8,7 +8,4 @@ use Rattle.whole_lines.specs.Lines.{sum_lanes}
 use Rattle.whole_lines.proofs.whole_lines.Given as goal
 
 abbrev pub invariant-loop-y : goal.invariant-loop-y
-invariant-loop-y l = (l.y ≤ l.lines) × (length l.acc ≡ sum_lanes) × Lined (whole_convolve l.mode l.numerators) l.src l.len l.len l.stride l.initial.dst l.dst l.y
-
-abbrev pub decreases-loop-y : goal.decreases-loop-y
-decreases-loop-y l = l.lines - l.y
+invariant-loop-y l = (length l.acc ≡ sum_lanes) × Lined (whole_convolve l.mode l.numerators) l.src l.len l.len l.stride l.initial.dst l.dst l.y
