@@ -2,10 +2,11 @@
 use Rattle.std.specs.Prelude.{ℕ, ◌+◌, ◌*◌, ◌/◌, Option}
 use Rattle.picture.specs.Planes.{Line}
 use Rattle.edges.specs.Edges.{value_at}
+use Rattle.blend.specs.declared.Weights.{Weights}
 
 -- four values in their weights, over 8, rounded
-abbrev pub weighed : ℕ → ℕ → ℕ → ℕ → ℕ → ℕ → ℕ → ℕ → ℕ
-weighed wa wb wc wd a b c d = (wa * a + wb * b + wc * c + wd * d + 4) / 8
+abbrev pub weighed : Weights → ℕ → ℕ → ℕ → ℕ → ℕ
+weighed w a b c d = (w.a * a + w.b * b + w.c * c + w.d * d + 4) / 8
 
 -- halving's rule on four samples: weights 1, 3, 3, 1 over 8, rounded
 abbrev pub mix : ℕ → ℕ → ℕ → ℕ → ℕ

@@ -1,7 +1,8 @@
 -- Pixels as bytes, and four pixels blended.
 use Rattle.std.specs.Prelude.{[], ◌∷◌, ℕ, get_or}
 use Rattle.picture.specs.declared.Pixel.{Pixel}
-use Rattle.blend.specs.Blend.{weighed, mix}
+use Rattle.blend.specs.declared.Weights.{Weights}
+use Rattle.blend.specs.Blend.{weighed}
 
 -- channel k of a pixel: r, g, b, a
 abbrev pub channel_of : Pixel → ℕ → ℕ
@@ -18,9 +19,5 @@ by_channel f p q r s =
     }
 
 -- four pixels in their weights, over 8, rounded
-abbrev pub weighed_pixels : ℕ → ℕ → ℕ → ℕ → Pixel → Pixel → Pixel → Pixel → Pixel
-weighed_pixels wa wb wc wd = by_channel (weighed wa wb wc wd)
-
--- four pixels blended
-abbrev pub mix_pixels : Pixel → Pixel → Pixel → Pixel → Pixel
-mix_pixels = by_channel mix
+abbrev pub weighed_pixels : Weights → Pixel → Pixel → Pixel → Pixel → Pixel
+weighed_pixels w = by_channel (weighed w)

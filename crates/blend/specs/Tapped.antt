@@ -5,6 +5,7 @@ use Rattle.passes.specs.Passes.{Pass}
 use Rattle.passes.specs.Written.{lane}
 use Rattle.blend.specs.declared.Tap.{Tap}
 use Rattle.blend.specs.declared.Taps.{Taps}
+use Rattle.blend.specs.declared.Weights.{Weights}
 
 -- where the bytes of a place start, from the line's start on; outside, there
 abbrev pub offset_of : Option ℕ → ℕ → ℕ
@@ -24,6 +25,10 @@ tap_of p stride weight = record { at = offset_of p stride; weight = weight_of p 
 abbrev pub taps_of : Option ℕ → Option ℕ → Option ℕ → Option ℕ → ℕ → Taps
 taps_of a b c d stride =
     record { a = tap_of a stride 1; b = tap_of b stride 3; c = tap_of c stride 3; d = tap_of d stride 1 }
+
+-- their weights
+abbrev pub weights_of : Taps → Weights
+weights_of t = record { a = t.a.weight; b = t.b.weight; c = t.c.weight; d = t.d.weight }
 
 -- byte k of the taps of the line at start, in their weights, over 8, rounded
 abbrev pub tapped : List ℕ → ℕ → Taps → ℕ → ℕ

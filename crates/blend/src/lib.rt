@@ -6,8 +6,9 @@ ghost use Rattle.picture.specs.Sizes.{side_room};
 ghost use Rattle.picture.specs.Spans.{Run};
 ghost use Rattle.passes.specs.Passes.{halve, double};
 ghost use Rattle.pixels.specs.Pixels.{pixel_from};
-ghost use Rattle.blend.specs.Tapped.{offset_of, tap_of, taps_of, tapped, LineRoom, Output, Blendable};
-ghost use Rattle.blend.specs.Pixels.{channel_of, weighed_pixels, mix_pixels};
+ghost use Rattle.blend.specs.Tapped.{offset_of, tap_of, taps_of, weights_of, tapped, LineRoom, Output, Blendable};
+ghost use Rattle.blend.specs.Blend.{weighed};
+ghost use Rattle.blend.specs.Pixels.{channel_of, weighed_pixels};
 ghost use Rattle.blend.specs.Parts.{Room, PassPartInside};
 
 use edges::extend;
@@ -27,6 +28,36 @@ pub struct Taps {
     b: Tap,
     c: Tap,
     d: Tap,
+}
+
+// The weights of four values, over 8.
+#[derive(Clone, Copy)]
+struct Weights {
+    a: u16,
+    b: u16,
+    c: u16,
+    d: u16,
+}
+
+// Those of halving, and of doubling, whose weights 1, 3 over 4 they are too.
+const ONE_THREE: Weights = Weights {
+    a: 1,
+    b: 3,
+    c: 3,
+    d: 1,
+};
+
+impl Taps {
+    fn weights(self) -> Weights
+        ensures { result ≡ weights_of self }
+    {
+        Weights {
+            a: self.a.weight,
+            b: self.b.weight,
+            c: self.c.weight,
+            d: self.d.weight,
+        }
+    }
 }
 
 // The bytes of a place, in a weight. Outside they are the line's first, in weight 0, so that a loop over lanes has no branch.
@@ -89,11 +120,11 @@ pub fn double_taps(len: usize, stride: usize, y: usize, mode: EdgeMode) -> Taps
 }
 
 // Four bytes in their weights, over 8, rounded, halves upward.
-fn blend(a: u8, b: u8, c: u8, d: u8, wa: u16, wb: u16, wc: u16, wd: u16) -> u8
-    requires { wa + wb + wc + wd ≤ 8 }
-    ensures { result ≡ (wa * a + wb * b + wc * c + wd * d + 4) / 8 }
+fn blend(a: u8, b: u8, c: u8, d: u8, w: Weights) -> u8
+    requires { w.a + w.b + w.c + w.d ≤ 8 }
+    ensures { result ≡ weighed w a b c d }
 {
-    ((wa * a as u16 + wb * b as u16 + wc * c as u16 + wd * d as u16 + 4) / 8) as u8
+    ((w.a * a as u16 + w.b * b as u16 + w.c * c as u16 + w.d * d as u16 + 4) / 8) as u8
 }
 
 // The taps of the line at start, blended lane by lane into the element at o.
@@ -105,16 +136,14 @@ fn blend_lanes(src: &[u8], start: usize, stride: usize, t: Taps, dst: &mut [u8],
     let at_b = start + t.b.at;
     let at_c = start + t.c.at;
     let at_d = start + t.d.at;
+    let w = t.weights();
     for k in 0..stride {
         dst[o + k] = blend(
             src[at_a + k],
             src[at_b + k],
             src[at_c + k],
             src[at_d + k],
-            t.a.weight,
-            t.b.weight,
-            t.c.weight,
-            t.d.weight,
+            w,
         );
     }
 }
@@ -134,27 +163,15 @@ fn read_pixel(src: &[u8], start: usize, i: usize) -> Pixel
 }
 
 // Four pixels in their weights, over 8, rounded, channel by channel.
-fn weigh_pixels(p: Pixel, q: Pixel, r: Pixel, s: Pixel, wa: u16, wb: u16, wc: u16, wd: u16) -> Pixel
-    requires { wa + wb + wc + wd ≤ 8 }
-    ensures { result ≡ weighed_pixels wa wb wc wd p q r s }
+fn weigh_pixels(p: Pixel, q: Pixel, r: Pixel, s: Pixel, w: Weights) -> Pixel
+    requires { w.a + w.b + w.c + w.d ≤ 8 }
+    ensures { result ≡ weighed_pixels w p q r s }
 {
     Pixel {
-        r: blend(p.r, q.r, r.r, s.r, wa, wb, wc, wd),
-        g: blend(p.g, q.g, r.g, s.g, wa, wb, wc, wd),
-        b: blend(p.b, q.b, r.b, s.b, wa, wb, wc, wd),
-        a: blend(p.a, q.a, r.a, s.a, wa, wb, wc, wd),
-    }
-}
-
-// Four pixels blended in weights 1, 3, 3, 1, channel by channel.
-fn blend_pixels(p: Pixel, q: Pixel, r: Pixel, s: Pixel) -> Pixel
-    ensures { result ≡ mix_pixels p q r s }
-{
-    Pixel {
-        r: blend(p.r, q.r, r.r, s.r, 1, 3, 3, 1),
-        g: blend(p.g, q.g, r.g, s.g, 1, 3, 3, 1),
-        b: blend(p.b, q.b, r.b, s.b, 1, 3, 3, 1),
-        a: blend(p.a, q.a, r.a, s.a, 1, 3, 3, 1),
+        r: blend(p.r, q.r, r.r, s.r, w),
+        g: blend(p.g, q.g, r.g, s.g, w),
+        b: blend(p.b, q.b, r.b, s.b, w),
+        a: blend(p.a, q.a, r.a, s.a, w),
     }
 }
 
@@ -179,12 +196,7 @@ fn blend_pixel(src: &[u8], start: usize, t: Taps, dst: &mut [u8], o: usize)
     let q = read_pixel(src, start + t.b.at, 0);
     let r = read_pixel(src, start + t.c.at, 0);
     let s = read_pixel(src, start + t.d.at, 0);
-    write_pixel(
-        dst,
-        o,
-        0,
-        weigh_pixels(p, q, r, s, t.a.weight, t.b.weight, t.c.weight, t.d.weight),
-    );
+    write_pixel(dst, o, 0, weigh_pixels(p, q, r, s, t.weights()));
 }
 
 // The taps of the line at start, blended into the element at o: of pixels at once, of any other elements lane by lane.
@@ -209,7 +221,7 @@ fn halve_pixel(src: &[u8], start: usize, len: usize, dst: &mut [u8], o: usize, x
     let q = read_pixel(src, start, at);
     let r = read_pixel(src, start, at + 1);
     let s = read_pixel(src, start, at + 2);
-    write_pixel(dst, o, x, blend_pixels(p, q, r, s));
+    write_pixel(dst, o, x, weigh_pixels(p, q, r, s, ONE_THREE));
 }
 
 // Outputs 2x + 1 and 2x + 2 of a row, doubled: the two between pixels x and x + 1, by whole pixels as `halve_pixel` does. There is always
@@ -224,8 +236,8 @@ fn double_pixel(src: &[u8], start: usize, len: usize, dst: &mut [u8], o: usize, 
     }
     let p = read_pixel(src, start, x);
     let q = read_pixel(src, start, x + 1);
-    write_pixel(dst, o, at + 1, blend_pixels(q, p, p, q));
-    write_pixel(dst, o, at + 2, blend_pixels(p, q, q, p));
+    write_pixel(dst, o, at + 1, weigh_pixels(q, p, p, q, ONE_THREE));
+    write_pixel(dst, o, at + 2, weigh_pixels(p, q, q, p, ONE_THREE));
 }
 
 // The two bytes from `at` on as one number, the first in its low half. It is a function of its own so that the compiler makes one read of it before
@@ -250,10 +262,7 @@ fn halve_byte(src: &[u8], start: usize, len: usize, dst: &mut [u8], o: usize, x:
         (p / 256) as u8,
         (q % 256) as u8,
         (q / 256) as u8,
-        1,
-        3,
-        3,
-        1,
+        ONE_THREE,
     );
 }
 
@@ -295,8 +304,8 @@ fn double_lanes(
     for k in 0..stride {
         let u = src[p + k];
         let v = src[q + k];
-        dst[a + k] = blend(v, u, u, v, 1, 3, 3, 1);
-        dst[b + k] = blend(u, v, v, u, 1, 3, 3, 1);
+        dst[a + k] = blend(v, u, u, v, ONE_THREE);
+        dst[b + k] = blend(u, v, v, u, ONE_THREE);
     }
 }
 

@@ -9,7 +9,7 @@ overflow_add-dst c = omega (arith, c.before.before.before.before.before.before.b
 pub loop-k-preserved : goal.loop-k-preserved
 loop-k-preserved c =
     let l = c.loop-k.invariant in
-    span_more l (omega arith) (omega arith) refl c.blend.ensures
+    span_more l (omega arith) (omega arith) refl (rw c.weights-w.ensures at c.blend.ensures)
 
 pub shape_of-dst : goal.shape_of-dst
 shape_of-dst c = c.loop-k.invariant.size

@@ -7,26 +7,16 @@ use lib.ListN.{get_or}
 use Rattle.picture.proofs.Spans.{span_same}
 use Rattle.pixels.specs.Pixels.{pixel_from}
 use Rattle.blend.specs.Blend.{weighed}
+use Rattle.blend.specs.Tapped.{weights_of}
 use Rattle.blend.proofs.Pixels.{bytes_made}
 use Rattle.blend.proofs.blend_pixel.Goals as goal
-use Rattle.blend.proofs.blend_pixel.Goals.{Start}
-use Rattle.blend.proofs.blend_pixel.Lts as lts
-use Rattle.blend.proofs.blend_pixel.Reads as reads
-use Rattle.blend.proofs.blend_pixel.Tie as tie
-
-abbrev the_After-read_pixel-s : Type 0
-the_After-read_pixel-s = lts.After-read_pixel4 tie.the-claims reads.Pre reads.Post
-
--- where the function starts, from the last pixel read
-abbrev begin : the_After-read_pixel-s → Start
-begin r = r.before.before.before.before.before.before.before.before.before.before
 
 pub overflow_add-start-4 : goal.overflow_add-start-4
 overflow_add-start-4 c =
     omega (arith, c.requires.d_ends, c.well_formed)
 
 pub weigh_pixels-requires : goal.weigh_pixels-requires
-weigh_pixels-requires c = c.requires.weights
+weigh_pixels-requires c = rw c.weights.ensures c.requires.weights
 
 pub write_pixel-requires : goal.write_pixel-requires
 write_pixel-requires c = omega (arith, c.requires.o_ends)
@@ -40,4 +30,4 @@ returns c =
     let here : a.o + 0 ≡ a.o = omega arith in
     span_same (rw here at c.write_pixel.ensures)
     (λ k _ l.
-    bytes_made (weighed t.a.weight t.b.weight t.c.weight t.d.weight) (from t.a.at) (from t.b.at) (from t.c.at) (from t.d.at) (c.read_pixel-p.ensures ∙ first t.a.at) (c.read_pixel-q.ensures ∙ first t.b.at) (c.read_pixel-r.ensures ∙ first t.c.at) (c.read_pixel-s.ensures ∙ first t.d.at) c.weigh_pixels.ensures k l)
+    bytes_made (weighed (weights_of t)) (from t.a.at) (from t.b.at) (from t.c.at) (from t.d.at) (c.read_pixel-p.ensures ∙ first t.a.at) (c.read_pixel-q.ensures ∙ first t.b.at) (c.read_pixel-r.ensures ∙ first t.c.at) (c.read_pixel-s.ensures ∙ first t.d.at) (rw c.weights.ensures at c.weigh_pixels.ensures) k l)

@@ -34,12 +34,12 @@ returns c =
     (element_made (double mode) src a.start a.len 4 (2 * x + 1)
     (span_same c.write_pixel.ensures
     (λ k _ l.
-    pixels_mix src a.start (x + 1) x x (x + 1) q p p q c.blend_pixels.ensures k l
+    pixels_mix src a.start (x + 1) x x (x + 1) q p p q c.weigh_pixels.ensures k l
     ∙ odd_inside mode a.len x (lane src a.start 4 k) c.requires.0))))
     (element_made (double mode) src a.start a.len 4 (2 * x + 2)
     (span_same c.write_pixel-2.ensures
     (λ k _ l.
-    pixels_mix src a.start x (x + 1) (x + 1) x p q q p c.blend_pixels-2.ensures k l
+    pixels_mix src a.start x (x + 1) (x + 1) x p q q p c.weigh_pixels-2.ensures k l
     ∙ even_inside mode a.len x (lane src a.start 4 k) c.requires.0))))
 
 pub overflow_mul-at : goal.overflow_mul-at
@@ -47,9 +47,3 @@ overflow_mul-at c = omega (arith, room_is)
 
 pub returns-then-dst-o : goal.returns-then-dst-o
 returns-then-dst-o c = absurd (omega arith)
-
-pub blend_pixels-requires : goal.blend_pixels-requires
-blend_pixels-requires c = tt
-
-pub blend_pixels-requires-2 : goal.blend_pixels-requires-2
-blend_pixels-requires-2 c = tt

@@ -20,8 +20,5 @@ returns c =
     element_made (halve mode) a.src.now a.start a.len 4 a.x
     (span_same c.write_pixel.ensures
     (λ k _ l.
-    pixels_mix a.src.now a.start (at - 1) at (at + 1) (at + 2) c.read_pixel-p.ensures c.read_pixel-q.ensures c.read_pixel-r.ensures c.read_pixel-s.ensures c.blend_pixels.ensures k l
+    pixels_mix a.src.now a.start (at - 1) at (at + 1) (at + 2) c.read_pixel-p.ensures c.read_pixel-q.ensures c.read_pixel-r.ensures c.read_pixel-s.ensures c.weigh_pixels.ensures k l
     ∙ halved_inside mode a.len a.x (lane a.src.now a.start 4 k) c.requires.0 c.requires.1))
-
-pub blend_pixels-requires : goal.blend_pixels-requires
-blend_pixels-requires c = tt
