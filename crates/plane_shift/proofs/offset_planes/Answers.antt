@@ -10,7 +10,7 @@ use Rattle.plane_shift.proofs.offset_planes.Goals as goal
 use Rattle.plane_shift.proofs.offset_planes.Goals.{Start, In-loop-c}
 
 pub loop-c-init : goal.loop-c-init
-loop-c-init c = let a = c.args in (omega arith, refl, none_moved (whole_offset a.dx) (whole_offset a.dy) a.size.w a.size.h a.planes.now)
+loop-c-init c = let a = c.args in (refl, none_moved (whole_offset a.dx) (whole_offset a.dy) a.size.w a.size.h a.planes.now)
 
 -- there are four planes
 four : (s : Start) → length s.args.planes.now ≡ 4 * (s.args.size.h * s.args.size.w)
@@ -51,8 +51,8 @@ loop-c-preserved c =
     let a = c.args in
     let moved =
     plane_more (whole_offset a.dx) (whole_offset a.dy) a.size.w a.size.h a.planes.now c.loop-c.planes c.offset_plane.new.plane c.loop-c.c (length a.planes.now / 4)
-    (omega (arith, four s)) (four s) (omega arith) c.loop-c.invariant.2 c.offset_plane.auto.plane c.offset_plane.ensures in
-    (omega arith, moved.size, moved)
+    (omega (arith, four s)) (four s) (omega arith) c.loop-c.invariant.1 c.offset_plane.auto.plane c.offset_plane.ensures in
+    (moved.size, moved)
 
 pub returns : goal.returns
 returns c =
@@ -60,4 +60,4 @@ returns c =
     let s = l.before.before in
     let a = c.args in
     let all : c.loop-c.c ≡ 4 = omega arith in
-    all_moved (whole_offset a.dx) (whole_offset a.dy) a.size.w a.size.h a.planes.now c.loop-c.planes (four s) (rw all at c.loop-c.invariant.2)
+    all_moved (whole_offset a.dx) (whole_offset a.dy) a.size.w a.size.h a.planes.now c.loop-c.planes (four s) (rw all at c.loop-c.invariant.1)

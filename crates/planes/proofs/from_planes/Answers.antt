@@ -3,16 +3,17 @@ use mathlib.Core.Path.{sym}
 use lib.Seq.{length-take-le}
 use Rattle.std.proofs.lemmas.Result.{err_from_is_err_and}
 use Rattle.picture.specs.Refusal.{number_of}
+use Rattle.picture.proofs.Refused.{call_refused}
 use Rattle.planes.specs.Planar.{interleaved}
-use Rattle.planes.proofs.Entry.{call_refused, sides_passed, enough, call_ready, call_done}
+use Rattle.planes.specs.Outcome.{converted_outcome}
+use Rattle.planes.proofs.Entry.{sides_passed, enough, call_ready, call_done}
 use Rattle.planes.proofs.from_planes.Goals as goal
 
 pub returns-in_err-check_convert : goal.returns-in_err-check_convert
-unfolding number_of
+unfolding number_of converted_outcome
 returns-in_err-check_convert c =
-    let a = c.args in
     let p = err_from_is_err_and c.from_residual.result c.from_residual.ensures.1 in
-    rw (p.1, p.2) (call_refused interleaved a.src.now a.w a.h a.dst.now _ c.in_err-check_convert.ensures)
+    rw (p.1, p.2) (call_refused _ _ _ _ c.in_err-check_convert.ensures)
 
 pub full_size-requires : goal.full_size-requires
 unfolding number_of

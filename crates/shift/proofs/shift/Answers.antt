@@ -1,15 +1,16 @@
 -- A refusal leaves the picture; where nothing is refused, the work has what it needs.
 use Rattle.std.proofs.lemmas.Result.{err_from_is_err_and}
 use Rattle.picture.specs.Refusal.{number_of}
-use Rattle.shift.proofs.Entry.{call_refused, sides_passed, call_ready, call_done}
+use Rattle.picture.proofs.Refused.{call_refused}
+use Rattle.shift.specs.Outcome.{shift_outcome}
+use Rattle.shift.proofs.Entry.{sides_passed, call_ready, call_done}
 use Rattle.shift.proofs.shift.Goals as goal
 
 pub returns-in_err-check_shift : goal.returns-in_err-check_shift
-unfolding number_of
+unfolding number_of shift_outcome
 returns-in_err-check_shift c =
-    let a = c.args in
     let p = err_from_is_err_and c.from_residual.result c.from_residual.ensures.1 in
-    rw (p.1, p.2) (call_refused a.picture.now a.w a.h a.dx a.dy _ c.in_err-check_shift.ensures)
+    rw (p.1, p.2) (call_refused _ _ _ _ c.in_err-check_shift.ensures)
 
 pub full_size-requires : goal.full_size-requires
 unfolding number_of
