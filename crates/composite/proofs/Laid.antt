@@ -1,6 +1,6 @@
 -- A plane of alphas: its bytes in the order of the pixels, the shadow's alphas of them, and the colour's channels as the tint's.
 use mathlib.Core.Path.{◌≡◌, refl, ap, ◌∙◌}
-use mathlib.Core.Bool.{Bool}
+use mathlib.Core.Bool.{Bool, true, false, cond}
 use mathlib.Core.List.{List}
 use Prim.Native.Nat.{ℕ, zero, suc, ◌+◌, ◌*◌, ◌/◌, ◌%◌, ◌<◌}
 use native.Mathlib.Nat.{div-add-mod', mul_comm}
@@ -11,8 +11,9 @@ use Rattle.picture.specs.Build.{build}
 use Rattle.picture.specs.Planes.{Plane, chan}
 use Rattle.picture.proofs.Build.{get_or-build, build_same}
 use Rattle.picture.proofs.Planes.{pixel_fits}
-use Rattle.composite.specs.Channels.{shadow_alpha}
-use Rattle.composite.specs.Shadow.{tinted, shadow_of}
+use Rattle.pixels.specs.Pixels.{pixel}
+use Rattle.composite.specs.Channels.{shadow_alpha, over}
+use Rattle.composite.specs.Shadow.{over_pixel, tinted, shadow_of}
 use Rattle.composite.specs.Plane.{plane_in, alphas_in, through, shadow_alphas, tint_of, tinted_by, tint_on, shadow_on}
 use Rattle.composite.specs.declared.Colour.{Colour}
 use Rattle.composite.specs.declared.Tint.{Tint}
@@ -52,3 +53,8 @@ as_tint colour a zero = refl
 as_tint colour a (suc zero) = refl
 as_tint colour a (suc (suc zero)) = refl
 as_tint colour a (suc (suc (suc c))) = refl
+
+-- a pixel over the shadow's or the shadow's alone, channel by channel
+pub channels : (b : Bool) (p q : ℕ → ℕ) → cond b (over_pixel (pixel p) (pixel q)) (pixel q) ≡ pixel (λ c. cond b (over (p c) (q c) (p 3)) (q c))
+channels true p q = refl
+channels false p q = refl

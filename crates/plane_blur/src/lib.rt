@@ -3,6 +3,7 @@
 
 ghost use Rattle.std.specs.Prelude.{◌≡◌};
 ghost use Rattle.picture.specs.Planes.{bytes_of, cleared};
+ghost use Rattle.picture.specs.Refusal.{number_of};
 ghost use Rattle.picture.specs.Answer.{answered, lent};
 ghost use Rattle.planes.specs.Planar.{on_planes};
 ghost use Rattle.gaussian_blur.specs.Needs.{BlurReady, BlurAccepted};
@@ -10,7 +11,7 @@ ghost use Rattle.gaussian_blur.specs.Outcome.{blurred_or_kept};
 ghost use Rattle.plane_blur.specs.Outcome.{blur_planes_outcome};
 
 use passes::Form;
-use picture::{EdgeMode, FullSize};
+use picture::{EdgeMode, FullSize, Refusal};
 
 // Planes of fewer bytes to a row are converted: line by line they cost more, up to 1.44 of a picture's blur at 16 square and 1.08 at 128, and with
 // two decimations 2.44 and 1.32; at 256 square it is 1.03 and 1.07, where converting takes 1.02 and 1.12.
@@ -50,11 +51,8 @@ fn apply_blur_planes(
     if size.width() < WIDE {
         blur_converted(planes, scratch, size, n, weights, mode, strength);
     } else {
-        let four = Form {
-            planes: 4,
-            lanes: 1,
-        };
-        gaussian_blur::blur_form(planes, scratch, size, four, n, weights, mode, strength);
+        let form = Form::PLANES;
+        gaussian_blur::blur_form(planes, scratch, size, form, n, weights, mode, strength);
     }
 }
 
@@ -86,10 +84,10 @@ pub fn blur_planes(
     n: u32,
     strength: f32,
     edge: u32,
-) -> u32
-    ensures { answered result (lent planes.new scratch.new) ≡ blur_planes_outcome planes.old w h scratch.old weights.now n strength edge }
+) -> Result<(), Refusal>
+    ensures { answered (number_of result) (lent planes.new scratch.new) ≡ blur_planes_outcome planes.old w h scratch.old weights.now n strength edge }
 {
-    let r = gaussian_blur::blur_refusal(
+    gaussian_blur::check_blur(
         planes.len(),
         w,
         h,
@@ -98,12 +96,9 @@ pub fn blur_planes(
         n,
         strength,
         edge,
-    );
-    if r != 0 {
-        return r;
-    }
+    )?;
     let size = picture::full_size(w, h);
     let mode = picture::edge_mode(edge);
     blur_planes_accepted(planes, scratch, size, n, weights, mode, strength);
-    0
+    Ok(())
 }

@@ -1,9 +1,10 @@
 // The shadow on four planes, with the refusals of that on a picture: alpha's plane alone is shifted and blurred.
 #![tactic(auto)]
 
-ghost use Rattle.std.specs.Prelude.{◌≡◌, true, false, ◌*◌, ◌<◌, length};
+ghost use Rattle.std.specs.Prelude.{◌≡◌, ◌*◌, ◌<◌, length};
 ghost use Rattle.picture.specs.Planes.{cleared};
 ghost use Rattle.picture.specs.Sizes.{full_bytes};
+ghost use Rattle.picture.specs.Refusal.{number_of};
 ghost use Rattle.picture.specs.Answer.{answered, lent_copy};
 ghost use Rattle.planes.specs.Planar.{plane_of, painted_planes, on_planes};
 ghost use Rattle.composite.specs.Shadow.{InUnit};
@@ -15,7 +16,7 @@ ghost use Rattle.plane_shadow.specs.Outcome.{shadow_planes_outcome};
 
 use composite::{Colour, Tint};
 use drop_shadow::{Casting, Recipe};
-use picture::{FullSize, Pixel};
+use picture::{FullSize, Pixel, Refusal};
 
 // Pixel i of four planes of n.
 fn pixel_in(planes: &[u8], n: usize, i: usize) -> Pixel
@@ -43,33 +44,22 @@ fn set_pixel_in(planes: &mut [u8], n: usize, i: usize, p: Pixel)
     planes[3 * n + i] = p.a;
 }
 
-// The planes over a shadow of this tint and these alphas, all four in one pass over the pixels.
-fn lay_planes(planes: &mut [u8], size: FullSize, alphas: &[u8], tint: Tint)
+// The planes over a shadow of this tint and these alphas, or that shadow alone, all four in one pass over the pixels. Which of them is a
+// constant of the loop.
+fn lay_planes<const COMPOSITE: bool>(
+    planes: &mut [u8],
+    size: FullSize,
+    alphas: &[u8],
+    tint: Tint,
+)
     requires { Alphas size planes.old alphas.now }
-    ensures { planes.new ≡ painted_planes size.w size.h (tint_on true tint (plane_of planes.old size.w size.h) (plane_in alphas.now size.w)) }
+    ensures { planes.new ≡ painted_planes size.w size.h (tint_on COMPOSITE tint (plane_of planes.old size.w size.h) (plane_in alphas.now size.w)) }
 {
     let n = size.bytes() / 4;
-    let mut i = 0;
-    while i < n {
-        let out = composite::compose_src_over(
-            pixel_in(planes, n, i),
-            composite::tinted_pixel(tint, alphas[i]),
-        );
+    for i in 0..n {
+        let shadow = composite::tinted_pixel(tint, alphas[i]);
+        let out = composite::pixel_over::<COMPOSITE>(pixel_in(planes, n, i), shadow);
         set_pixel_in(planes, n, i, out);
-        i += 1;
-    }
-}
-
-// The shadow alone, in one pass over the pixels.
-fn tint_planes(planes: &mut [u8], size: FullSize, alphas: &[u8], tint: Tint)
-    requires { Alphas size planes.old alphas.now }
-    ensures { planes.new ≡ painted_planes size.w size.h (tint_on false tint (plane_of planes.old size.w size.h) (plane_in alphas.now size.w)) }
-{
-    let n = size.bytes() / 4;
-    let mut i = 0;
-    while i < n {
-        set_pixel_in(planes, n, i, composite::tinted_pixel(tint, alphas[i]));
-        i += 1;
     }
 }
 
@@ -88,9 +78,9 @@ fn write_plane_shadow(
     composite::shadow_alphas(plane, colour.alpha);
     let tint = composite::tint_of(colour);
     if composite {
-        lay_planes(planes, size, plane, tint);
+        lay_planes::<true>(planes, size, plane, tint);
     } else {
-        tint_planes(planes, size, plane, tint);
+        lay_planes::<false>(planes, size, plane, tint);
     }
 }
 
@@ -109,10 +99,8 @@ fn apply_shadow_planes(
     let area = plane.len();
     pixels::copy_bytes(plane, &planes[3 * area..4 * area]);
     drop_shadow::cast_plane(plane, scratch, weights, cast);
-    let size = cast.size;
-    let recipe = cast.recipe;
-    let colour = drop_shadow::colour_of(recipe);
-    write_plane_shadow(plane, planes, size, colour, cast.composite);
+    let colour = Colour::from(cast.recipe);
+    write_plane_shadow(plane, planes, cast.size, colour, cast.composite);
 }
 
 // An accepted call: the planes with their shadow, and the work buffers zero where they were used.
@@ -152,10 +140,10 @@ pub fn shadow_planes(
     edge: u32,
     recipe: Recipe,
     composite: bool,
-) -> u32
-    ensures { answered result (lent_copy planes.new scratch.new copy.new) ≡ shadow_planes_outcome planes.old w h scratch.old copy.old weights.now n edge recipe composite }
+) -> Result<(), Refusal>
+    ensures { answered (number_of result) (lent_copy planes.new scratch.new copy.new) ≡ shadow_planes_outcome planes.old w h scratch.old copy.old weights.now n edge recipe composite }
 {
-    let r = drop_shadow::shadow_refusal(
+    drop_shadow::check_shadow(
         planes.len(),
         w,
         h,
@@ -165,11 +153,8 @@ pub fn shadow_planes(
         n,
         edge,
         recipe,
-    );
-    if r != 0 {
-        return r;
-    }
+    )?;
     let cast = drop_shadow::casting_of(w, h, n, edge, recipe, composite);
     shadow_planes_accepted(planes, scratch, copy, weights, cast);
-    0
+    Ok(())
 }

@@ -11,13 +11,8 @@ use Rattle.composite.specs.Shadow.{over_pixel}
 use Rattle.composite.specs.Plane.{tinted_by, tint_on}
 use Rattle.pixels.specs.Pixels.{pixel}
 use Rattle.pixels.proofs.Painting.{at, begins, chan_here, next, turn, ends}
-use Rattle.composite.proofs.Laid.{plane_here}
+use Rattle.composite.proofs.Laid.{plane_here, channels}
 use Rattle.composite.proofs.lay_pixels.Goals as goal
-
--- a pixel over the shadow's or the shadow's alone, channel by channel
-channels : (b : Bool) (p q : ℕ → ℕ) → cond b (over_pixel (pixel p) (pixel q)) (pixel q) ≡ pixel (λ c. cond b (over (p c) (q c) (p 3)) (q c))
-channels true p q = refl
-channels false p q = refl
 
 pub loop-i-preserved : goal.loop-i-preserved
 loop-i-preserved g c =

@@ -16,7 +16,7 @@ write_plane_shadow-requires c =
     let r = c.requires.fact_1 in
     record {
       fact_1 = record { pictured = record { sized = r.sized; exact = c.requires.fact_2 }; exact = c.cast_plane.auto.plane ∙ c.copy_bytes.auto.to ∙ r.plane_is };
-      fact_2 = rw c.colour_of-colour.ensures r.given.colour;
+      fact_2 = rw c.from-colour.ensures r.given.colour;
     }
 
 pub returns : goal.returns
@@ -25,5 +25,5 @@ returns c =
     let a = c.args in
     let t = a.cast in
     c.write_plane_shadow.ensures
-    ∙ rw (c.colour_of-colour.ensures, c.cast_plane.ensures, c.copy_bytes.ensures)
+    ∙ rw (c.from-colour.ensures, c.cast_plane.ensures, c.copy_bytes.ensures)
     (planes_shadowed t.mode a.weights.now t.n t.recipe t.size.w t.size.h r.sized.w_low r.sized.h_low t.composite a.planes.now (length a.plane.now) (4 * length a.plane.now - 3 * length a.plane.now) r.plane_is (omega arith))

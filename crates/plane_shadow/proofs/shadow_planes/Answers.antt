@@ -1,37 +1,31 @@
 -- Refused, or the work of an accepted call.
-use mathlib.Core.Path.{◌≡◌, sym, ◌∙◌}
-use mathlib.Core.Bool.{false}
-use Rattle.picture.specs.Sizes.{full_size}
-use Rattle.picture.specs.Refusal.{wrong_sides}
-use Rattle.picture.proofs.Answers.{refused, done}
-use Rattle.drop_shadow.specs.Needs.{ShadowAccepted}
-use Rattle.plane_shadow.specs.Outcome.{shadow_planes_outcome}
+use mathlib.Core.Path.{sym}
+use Rattle.std.proofs.lemmas.Result.{err_from_is_err_and}
+use Rattle.picture.specs.Refusal.{number_of}
+use Rattle.picture.proofs.Answers.{done}
+use Rattle.picture.proofs.Refused.{call_refused}
 use Rattle.drop_shadow.proofs.Accepted.{accepted}
+use Rattle.plane_shadow.specs.Outcome.{shadow_planes_outcome}
 use Rattle.plane_shadow.proofs.shadow_planes.Goals as goal
-use Rattle.plane_shadow.proofs.shadow_planes.Goals.{Else-r-ne0}
 
-pub returns-then-r-ne0 : goal.returns-then-r-ne0
-unfolding shadow_planes_outcome
-returns-then-r-ne0 c =
-    let f = c.if-r-ne0.true in
-    rw c.shadow_refusal-r.ensures (refused _ _ _ (λ e. f (c.shadow_refusal-r.ensures ∙ e)))
-
--- nothing was refused
-fine : (c : Else-r-ne0) →
-    let a = c.args in
-    (wrong_sides a.w a.h ≡ false) × ShadowAccepted (full_size a.w a.h) a.planes.now a.scratch.now a.copy.now a.weights.now a.recipe
-fine c =
-    let a = c.args in
-    accepted a.planes.now a.w a.h a.scratch.now a.copy.now a.weights.now a.n a.edge a.recipe (sym c.if-r-ne0.false ∙ c.shadow_refusal-r.ensures)
-
-pub shadow_planes_accepted-requires : goal.shadow_planes_accepted-requires
-shadow_planes_accepted-requires c =
-    rw c.casting_of-cast.ensures (fine (goal.at.shadow_planes_accepted-requires c).Else-r-ne0).1
-
-pub returns : goal.returns
-unfolding shadow_planes_outcome
-returns c =
-    rw (c.shadow_planes_accepted.ensures, c.casting_of-cast.ensures) (done _ _ _ (sym c.shadow_refusal-r.ensures ∙ c.if-r-ne0.false))
+pub returns-in_err-check_shadow : goal.returns-in_err-check_shadow
+unfolding number_of shadow_planes_outcome
+returns-in_err-check_shadow c =
+    let p = err_from_is_err_and c.from_residual.result c.from_residual.ensures.1 in
+    rw (p.1, p.2) (call_refused _ _ _ _ c.in_err-check_shadow.ensures)
 
 pub casting_of-cast-requires : goal.casting_of-cast-requires
-casting_of-cast-requires c = (fine (goal.at.casting_of-cast-requires c).Else-r-ne0).0
+unfolding number_of
+casting_of-cast-requires c =
+    let a = c.args in
+    (accepted a.planes.now a.w a.h a.scratch.now a.copy.now a.weights.now a.n a.edge a.recipe c.in_ok-check_shadow.ensures).0
+
+pub shadow_planes_accepted-requires : goal.shadow_planes_accepted-requires
+unfolding number_of
+shadow_planes_accepted-requires c =
+    let a = c.args in
+    rw c.casting_of-cast.ensures (accepted a.planes.now a.w a.h a.scratch.now a.copy.now a.weights.now a.n a.edge a.recipe c.in_ok-check_shadow.ensures).1
+
+pub returns : goal.returns
+unfolding number_of shadow_planes_outcome
+returns c = rw (c.shadow_planes_accepted.ensures, c.casting_of-cast.ensures) (done _ _ _ (sym c.in_ok-check_shadow.ensures))

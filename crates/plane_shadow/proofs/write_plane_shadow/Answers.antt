@@ -13,4 +13,4 @@ returns-then-composite c =
 pub returns-else-composite : goal.returns-else-composite
 returns-else-composite c =
     let a = c.args in
-    shadow_written a.size.w a.size.h (painted_planes a.size.w a.size.h) (planes_same a.size.w a.size.h) (plane_of a.planes.now a.size.w a.size.h) a.colour a.plane.now c.requires.fact_1.exact false c.if-composite.false c.tint_of-tint.ensures c.shadow_alphas.ensures c.tint_planes.ensures
+    shadow_written a.size.w a.size.h (painted_planes a.size.w a.size.h) (planes_same a.size.w a.size.h) (plane_of a.planes.now a.size.w a.size.h) a.colour a.plane.now c.requires.fact_1.exact false c.if-composite.false c.tint_of-tint.ensures c.shadow_alphas.ensures c.lay_planes-else-composite.ensures
