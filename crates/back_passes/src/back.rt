@@ -6,7 +6,8 @@ ghost use Rattle.back_passes.specs.Steps.{exact_pass, OutputReady, PassReady};
 use crate::taps::carry_taps;
 use picture::EdgeMode;
 
-// A pass of the blur.
+// A pass of the blur. It is a value, as the contracts speak of it (`exact_pass kind`, `gain kind`) and one function asks for it: a trait with three
+// types would be no plainer.
 #[derive(Clone, Copy)]
 pub enum PassKind {
     Halve,

@@ -309,7 +309,8 @@ fn double_lanes(
     }
 }
 
-// Output x of a line, halved, whose samples lie inside: of pixels, of single bytes, and of any other elements.
+// Output x of a line, halved, whose samples lie inside: of pixels, of single bytes, and of any other elements. Halving makes one output of four
+// samples and doubling two of two, so the ways of either are code of their own: one function for both would only choose between them.
 pub fn halve_inside(
     src: &[u8],
     start: usize,

@@ -82,11 +82,7 @@ fn resize_turned(
 // bytes are the same either way.
 fn pays(rows: Rows, w: usize, v: usize) -> bool {
     let most = if rows.stride == 1 { 16 } else { 7 };
-    if w <= most && v <= most {
-        64 <= rows.lines
-    } else {
-        false
-    }
+    w <= most && v <= most && 64 <= rows.lines
 }
 
 // Lines that are a level's rows, `before` bytes of the picture, made others, `between` bytes of scratch.
@@ -156,7 +152,8 @@ fn resize_form(
     );
 }
 
-// The level of size s, halved: its bytes are the first of the picture.
+// The level of size s, halved: its bytes are the first of the picture. It and `double_form` promise different things of the two buffers, so they
+// stay two functions on the one above.
 pub fn halve_form(picture: &mut [u8], scratch: &mut [u8], s: LevelSize, form: Form, mode: EdgeMode)
     requires { LevelBuffers form picture.old scratch.old s }
     ensures { take (form_bytes form (half_level s).w (half_level s).h) picture.new ≡ form_pass form (halve mode) s (half_level s) picture.old }

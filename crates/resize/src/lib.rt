@@ -3,7 +3,6 @@
 
 ghost use Rattle.std.specs.Prelude.{◌≡◌, ◌+◌, ◌-◌, ◌*◌, ◌<◌};
 ghost use Rattle.picture.specs.Sizes.{side_room};
-ghost use Rattle.passes.specs.Passes.{halve, double};
 ghost use Rattle.passes.specs.Written.{line_byte, passed};
 ghost use Rattle.blend.specs.Tapped.{LineRoom, Output, tapped};
 ghost use Rattle.blend.specs.Parts.{Room, PassPartInside};
@@ -14,7 +13,8 @@ ghost use Rattle.resize.specs.Room.{ResizeLines, EndsRoom, Parts};
 use blend::{Taps, blend_element, double_inside, double_taps, halve_inside, halve_taps};
 use picture::EdgeMode;
 
-// Whether a line is halved or doubled.
+// Whether a line is halved or doubled. It is a value, and no trait with two types, as the contracts speak of it (`pass_of kind`) and only two
+// functions ask for it: a trait would be no plainer.
 #[derive(Clone, Copy)]
 pub enum Resize {
     Halve,
@@ -32,27 +32,7 @@ fn output_taps(len: usize, stride: usize, y: usize, mode: EdgeMode, kind: Resize
     }
 }
 
-// The outputs of a line, halved, whose samples all lie inside, into the line at o.
-fn halve_inner(src: &[u8], start: usize, stride: usize, len: usize, dst: &mut [u8], o: usize)
-    requires { Room src.now dst.old start stride len o (inner_to Resize.Halve len) }
-    ensures { PassPartInside halve src.now dst.old dst.new start stride len o 1 (inner_to Resize.Halve len) }
-{
-    for x in 1..1 + len.saturating_sub(3) / 2 {
-        halve_inside(src, start, stride, len, dst, o, x);
-    }
-}
-
-// The outputs of a line, doubled, whose samples all lie inside, into the line at o: two between each two elements.
-fn double_inner(src: &[u8], start: usize, stride: usize, len: usize, dst: &mut [u8], o: usize)
-    requires { Room src.now dst.old start stride len o (inner_to Resize.Double len) }
-    ensures { PassPartInside double src.now dst.old dst.new start stride len o 1 (inner_to Resize.Double len) }
-{
-    for x in 0..len - 1 {
-        double_inside(src, start, stride, len, dst, o, x);
-    }
-}
-
-// The outputs of a line whose samples all lie inside, by kind, into the line at o.
+// The outputs of a line whose samples all lie inside, into the line at o: one of each two elements, or two between each two.
 fn resize_inner(
     src: &[u8],
     start: usize,
@@ -66,8 +46,16 @@ fn resize_inner(
     ensures { PassPartInside (pass_of kind) src.now dst.old dst.new start stride len o 1 (inner_to kind len) }
 {
     match kind {
-        Resize::Halve => halve_inner(src, start, stride, len, dst, o),
-        Resize::Double => double_inner(src, start, stride, len, dst, o),
+        Resize::Halve => {
+            for x in 1..1 + len.saturating_sub(3) / 2 {
+                halve_inside(src, start, stride, len, dst, o, x);
+            }
+        }
+        Resize::Double => {
+            for y in 0..len - 1 {
+                double_inside(src, start, stride, len, dst, o, y);
+            }
+        }
     }
 }
 

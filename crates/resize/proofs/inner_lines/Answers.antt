@@ -33,22 +33,20 @@ resize_inner-requires c =
       len_low = c.requires.len_low;
       len_high = c.requires.len_high;
       src_ends = reads s y c.loop-y-test.true;
-      dst_ends = omega (arith, writes s y c.loop-y-test.true, inside s, c.loop-y.invariant.0);
+      dst_ends = omega (arith, writes s y c.loop-y-test.true, inside s, c.loop-y.auto.dst);
     }
 
 pub loop-y-preserved : goal.loop-y-preserved
 loop-y-preserved c =
     let s = (goal.at.loop-y-preserved c).Start in
-    let stride = c.args.stride in (
-      c.resize_inner.auto.dst ∙ c.loop-y.invariant.0,
-      λ mode.
-          parts_more c.loop-y.y (omega (arith, scale 0 stride 1 _ (many s).some, one-mul stride)) (inside s) (c.loop-y.invariant.1 mode) (span_ends (c.resize_inner.ensures mode) (one-mul stride) refl),
-    )
+    let stride = c.args.stride in
+    λ mode.
+    parts_more c.loop-y.y (omega (arith, scale 0 stride 1 _ (many s).some, one-mul stride)) (inside s) (c.loop-y.invariant mode) (span_ends (c.resize_inner.ensures mode) (one-mul stride) refl)
 
 pub returns : goal.returns
 returns c =
     let all : c.loop-y.y ≡ c.args.lines = omega (arith, c.loop-y-test.false) in
-    rw all at c.loop-y.invariant.1
+    rw all at c.loop-y.invariant
 
 pub overflow_mul-read : goal.overflow_mul-read
 overflow_mul-read c = let s = (goal.at.overflow_mul-read c).Start in omega (arith, reads s 0 c.requires.some)
@@ -57,13 +55,10 @@ pub overflow_mul-made : goal.overflow_mul-made
 overflow_mul-made c = let s = (goal.at.overflow_mul-made c).Start in omega (arith, writes s 0 c.requires.some)
 
 pub loop-y-init : goal.loop-y-init
-loop-y-init c = (refl, λ mode. parts_none)
+loop-y-init c = λ mode. parts_none
 
 pub overflow_mul-y : goal.overflow_mul-y
 overflow_mul-y c = omega (arith, reads (goal.at.overflow_mul-y c).Start c.loop-y.y c.loop-y-test.true)
 
 pub overflow_mul-y-in-loop-y : goal.overflow_mul-y-in-loop-y
 overflow_mul-y-in-loop-y c = omega (arith, writes (goal.at.overflow_mul-y-in-loop-y c).Start c.loop-y.y c.loop-y-test.true)
-
-pub shape_of-dst : goal.shape_of-dst
-shape_of-dst c = c.loop-y.invariant.0

@@ -1,7 +1,5 @@
 -- Each turn makes the outputs inside of one line more.
-use mathlib.Core.Path.{◌≡◌}
 use Prim.Native.Nat.{◌*◌}
-use lib.ListN.{length}
 use Rattle.picture.specs.declared.EdgeMode.{EdgeMode}
 use Rattle.passes.specs.Written.{line_byte}
 use Rattle.resize.specs.Resize.{pass_of, inner_to}
@@ -9,4 +7,4 @@ use Rattle.resize.specs.Room.{Parts}
 use Rattle.resize.proofs.inner_lines.Given as goal
 
 abbrev pub invariant-loop-y : goal.invariant-loop-y
-invariant-loop-y l = (length l.dst ≡ length l.initial.dst) × ((mode : EdgeMode) → Parts l.initial.dst l.dst l.y (l.out * l.stride) l.stride (inner_to l.kind l.len * l.stride) (λ z r. line_byte (pass_of l.kind mode) l.src (z * (l.len * l.stride)) l.len l.stride r))
+invariant-loop-y l = (mode : EdgeMode) → Parts l.initial.dst l.dst l.y (l.out * l.stride) l.stride (inner_to l.kind l.len * l.stride) (λ z r. line_byte (pass_of l.kind mode) l.src (z * (l.len * l.stride)) l.len l.stride r)

@@ -1,16 +1,52 @@
 -- Each arm is the inside of its kind.
+use mathlib.Core.Path.{◌≡◌}
+use Prim.Native.Nat.{◌+◌, ◌*◌}
+use native.Mathlib.Omega.{arith}
+use Rattle.picture.proofs.Sizes.{room_is}
+use Rattle.picture.proofs.Spans.{scale, span_none, span_join}
+use Rattle.resize.specs.declared.Resize.TheVariants.{Halve, Double}
+use Rattle.resize.specs.Resize.{inner_to}
+use Rattle.resize.proofs.Outputs.{room_less}
 use Rattle.resize.proofs.resize_inner.Goals as goal
 
-pub halve_inner-requires : goal.halve_inner-requires
-halve_inner-requires c = rw c.in-Halve.is at c.requires
+-- ---- halved
+pub loop-x-init : goal.loop-x-init
+loop-x-init c = λ mode. span_none (omega arith)
 
-pub double_inner-requires : goal.double_inner-requires
-double_inner-requires c = rw c.in-Double.is at c.requires
+pub halve_inside-requires : goal.halve_inside-requires
+halve_inside-requires c =
+    (omega arith, omega arith, room_less (c.loop-x.x + 1) (rw c.in-Halve.is at c.requires) c.loop-x.auto.dst (omega arith))
 
-pub returns-in-Halve : goal.returns-in-Halve
-returns-in-Halve c =
-    simp c.in-Halve.is c.halve_inner.ensures
+pub loop-x-preserved : goal.loop-x-preserved
+loop-x-preserved c =
+    let stride = c.args.stride in
+    let x = c.loop-x.x in
+    λ mode.
+    span_join (omega (arith, scale 0 stride 1 x (omega arith))) (omega (arith, scale 0 stride x (x + 1) (omega arith))) (c.loop-x.invariant mode) (c.halve_inside.ensures mode)
 
-pub returns-in-Double : goal.returns-in-Double
-returns-in-Double c =
-    simp c.in-Double.is c.double_inner.ensures
+pub returns-after-loop-x : goal.returns-after-loop-x
+returns-after-loop-x c =
+    let e : c.loop-x.x ≡ inner_to Halve c.args.len = omega arith in
+    simp c.in-Halve.is (rw e at c.loop-x.invariant)
+
+-- ---- doubled
+pub loop-y-init : goal.loop-y-init
+loop-y-init c = λ mode. span_none (omega arith)
+
+pub double_inside-requires : goal.double_inside-requires
+double_inside-requires c =
+    (omega arith, room_less (2 * c.loop-y.y + 3) (rw c.in-Double.is at c.requires) c.loop-y.auto.dst (omega arith))
+
+pub loop-y-preserved : goal.loop-y-preserved
+loop-y-preserved c =
+    let stride = c.args.stride in
+    let y = c.loop-y.y in
+    let q : 2 * y + 3 ≡ 2 * (y + 1) + 1 = omega arith in
+    λ mode.
+    rw q at
+    (span_join (omega (arith, scale 0 stride 1 (2 * y + 1) (omega arith))) (omega (arith, scale 0 stride (2 * y + 1) (2 * y + 3) (omega arith))) (c.loop-y.invariant mode) (c.double_inside.ensures mode))
+
+pub returns-after-loop-y : goal.returns-after-loop-y
+returns-after-loop-y c =
+    let e : 2 * c.loop-y.y + 1 ≡ inner_to Double c.args.len = omega arith in
+    simp c.in-Double.is (rw e at c.loop-y.invariant)
