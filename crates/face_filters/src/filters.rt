@@ -22,7 +22,7 @@ pub extern "C" fn corbelrush_blur(
 ) -> u32
     ensures { answered result (lent picture.new scratch.new) ≡ blurring.blur_outcome picture.old w h scratch.old weights.now n strength edge }
 {
-    gaussian_blur::blur(picture, w, h, scratch, weights, n, strength, edge)
+    picture::number_of(gaussian_blur::blur(picture, w, h, scratch, weights, n, strength, edge))
 }
 
 // Moves a picture of w by h pixels by dx and dy, as `shift` does.
@@ -30,7 +30,7 @@ pub extern "C" fn corbelrush_blur(
 pub extern "C" fn corbelrush_shift(picture: &mut [u8], w: u32, h: u32, dx: f32, dy: f32) -> u32
     ensures { answered result picture.new ≡ shifting.shift_outcome picture.old w h dx dy }
 {
-    shift::shift(picture, w, h, dx, dy)
+    picture::number_of(shift::shift(picture, w, h, dx, dy))
 }
 
 // Casts the shadow of a picture of w by h pixels, as `shadow` does.
@@ -64,7 +64,7 @@ pub extern "C" fn corbelrush_shadow(
         blue,
         alpha,
     };
-    drop_shadow::shadow(
+    picture::number_of(drop_shadow::shadow(
         picture,
         w,
         h,
@@ -75,5 +75,5 @@ pub extern "C" fn corbelrush_shadow(
         edge,
         recipe,
         composite != 0,
-    )
+    ))
 }

@@ -16,7 +16,7 @@ use drop_shadow::Recipe;
 pub extern "C" fn corbelrush_to_planes(src: &[u8], w: u32, h: u32, dst: &mut [u8]) -> u32
     ensures { answered result dst.new ≡ to_planes_outcome src.now w h dst.old }
 {
-    planes::to_planes(src, w, h, dst)
+    picture::number_of(planes::to_planes(src, w, h, dst))
 }
 
 // The picture of four planes of w by h, as `from_planes` writes it.
@@ -24,7 +24,7 @@ pub extern "C" fn corbelrush_to_planes(src: &[u8], w: u32, h: u32, dst: &mut [u8
 pub extern "C" fn corbelrush_from_planes(src: &[u8], w: u32, h: u32, dst: &mut [u8]) -> u32
     ensures { answered result dst.new ≡ from_planes_outcome src.now w h dst.old }
 {
-    planes::from_planes(src, w, h, dst)
+    picture::number_of(planes::from_planes(src, w, h, dst))
 }
 
 // Blurs four planes of w by h, as `blur_planes` does.
@@ -41,7 +41,7 @@ pub extern "C" fn corbelrush_blur_planes(
 ) -> u32
     ensures { answered result (lent planes.new scratch.new) ≡ blur_planes_outcome planes.old w h scratch.old weights.now n strength edge }
 {
-    plane_blur::blur_planes(planes, w, h, scratch, weights, n, strength, edge)
+    picture::number_of(plane_blur::blur_planes(planes, w, h, scratch, weights, n, strength, edge))
 }
 
 // Moves four planes of w by h by dx and dy, as `shift_planes` does.
@@ -55,7 +55,7 @@ pub extern "C" fn corbelrush_shift_planes(
 ) -> u32
     ensures { answered result planes.new ≡ shift_planes_outcome planes.old w h dx dy }
 {
-    plane_shift::shift_planes(planes, w, h, dx, dy)
+    picture::number_of(plane_shift::shift_planes(planes, w, h, dx, dy))
 }
 
 // Casts the shadow of four planes of w by h, as `shadow_planes` does.
@@ -89,7 +89,7 @@ pub extern "C" fn corbelrush_shadow_planes(
         blue,
         alpha,
     };
-    plane_shadow::shadow_planes(
+    picture::number_of(plane_shadow::shadow_planes(
         planes,
         w,
         h,
@@ -100,5 +100,5 @@ pub extern "C" fn corbelrush_shadow_planes(
         edge,
         recipe,
         composite != 0,
-    )
+    ))
 }
