@@ -11,16 +11,6 @@ use Rattle.blend.specs.Tapped.{weights_of}
 use Rattle.blend.proofs.Pixels.{bytes_made}
 use Rattle.blend.proofs.blend_pixel.Goals as goal
 
-pub overflow_add-start-4 : goal.overflow_add-start-4
-overflow_add-start-4 c =
-    omega (arith, c.requires.d_ends, c.well_formed)
-
-pub weigh_pixels-requires : goal.weigh_pixels-requires
-weigh_pixels-requires c = rw c.weights.ensures c.requires.weights
-
-pub write_pixel-requires : goal.write_pixel-requires
-write_pixel-requires c = omega (arith, c.requires.o_ends)
-
 pub returns : goal.returns
 returns c =
     let a = c.args in

@@ -2,7 +2,7 @@ use mathlib.Core.Path.{◌≡◌}
 use Prim.Native.Nat.{ℕ, ◌+◌, ◌*◌, ◌≤◌}
 use native.Mathlib.Nat.{add-mul, one-mul}
 use native.Mathlib.Omega.{arith}
-use lib.ListN.{length, length-set}
+use lib.ListN.{length}
 use Rattle.picture.proofs.Sizes.{room_is}
 use Rattle.picture.proofs.Spans.{scale, within, span_same, span_join, span_element}
 use Rattle.passes.specs.Passes.{double}
@@ -10,7 +10,7 @@ use Rattle.passes.specs.Written.{lane}
 use Rattle.passes.proofs.Written.{element_made}
 use Rattle.blend.proofs.Tapped.{element_ends}
 use Rattle.blend.proofs.Outputs.{odd_inside, even_inside}
-use Rattle.blend.proofs.Pairs.{pair_none, pair_more, pair_size}
+use Rattle.blend.proofs.Pairs.{pair_more, pair_size}
 use Rattle.blend.proofs.double_lanes.Goals as goal
 use Rattle.blend.proofs.double_lanes.Goals.{Start}
 
@@ -28,18 +28,6 @@ room st =
       element_ends st.requires.1 (a.x + 1) (omega arith),
       omega (arith, next a.x a.stride, within a.o a.stride (2 * a.x + 2) (2 * a.x + 3) (omega arith), st.requires.1.dst_ends),
     )
-
-pub bounds-dst-a : goal.bounds-dst-a
-bounds-dst-a c =
-    let g = c.before.before.before.before.before in
-    omega (arith, room g.before.before.before, pair_size c.loop-k.invariant)
-
-pub bounds-dst-b : goal.bounds-dst-b
-bounds-dst-b c =
-    let g = c.before.before.before.before.before.before in
-    let st = g.before.before.before in
-    let a = c.args in
-    omega (arith, room st, pair_size c.loop-k.invariant, length-set c.loop-k.dst (a.o + (2 * a.x + 1) * a.stride + c.loop-k.k) c.blend.result)
 
 pub loop-k-preserved : goal.loop-k-preserved
 loop-k-preserved c =
@@ -65,56 +53,8 @@ returns c =
     (span_element (λ y k. double mode a.len (lane src a.start a.stride k) y) (2 * x + 2) (omega (arith, next x a.stride))
     (span_same both.second (λ k _ _. even_inside mode a.len x (lane src a.start a.stride k) c.requires.0))))
 
-pub overflow_mul-p : goal.overflow_mul-p
-overflow_mul-p c = omega (arith, room c.before.before.before)
-
-pub overflow_add-p : goal.overflow_add-p
-overflow_add-p c = omega (arith, room c.before.before.before)
-
-pub overflow_add-q : goal.overflow_add-q
-overflow_add-q c = omega (arith, room_is)
-
-pub overflow_mul-q : goal.overflow_mul-q
-overflow_mul-q c = omega (arith, room c.before.before.before)
-
-pub overflow_add-q-2 : goal.overflow_add-q-2
-overflow_add-q-2 c = omega (arith, room c.before.before.before)
-
 pub overflow_mul-a : goal.overflow_mul-a
 overflow_mul-a c = omega (arith, room_is)
 
 pub overflow_add-a : goal.overflow_add-a
 overflow_add-a c = omega (arith, room_is)
-
-pub overflow_mul-a-2 : goal.overflow_mul-a-2
-overflow_mul-a-2 c = omega (arith, room c.before.before.before)
-
-pub overflow_add-a-2 : goal.overflow_add-a-2
-overflow_add-a-2 c = omega (arith, room c.before.before.before)
-
-pub overflow_add-b : goal.overflow_add-b
-overflow_add-b c = omega (arith, room c.before.before.before)
-
-pub loop-k-init : goal.loop-k-init
-loop-k-init c = pair_none
-
-pub overflow_add-u : goal.overflow_add-u
-overflow_add-u c = omega (arith, room c.before.before.before.before.before)
-
-pub bounds-src-p : goal.bounds-src-p
-bounds-src-p c = omega (arith, room c.before.before.before.before.before.before)
-
-pub overflow_add-v : goal.overflow_add-v
-overflow_add-v c = omega (arith, room c.before.before.before.before.before.before)
-
-pub bounds-src-q : goal.bounds-src-q
-bounds-src-q c = omega (arith, room c.before.before.before.before.before.before.before)
-
-pub overflow_add-dst : goal.overflow_add-dst
-overflow_add-dst c = omega (arith, room c.before.before.before.before.before.before.before.before)
-
-pub overflow_add-dst-in-loop-k : goal.overflow_add-dst-in-loop-k
-overflow_add-dst-in-loop-k c = omega (arith, room c.before.before.before.before.before.before.before.before.before)
-
-pub shape_of-dst : goal.shape_of-dst
-shape_of-dst c = pair_size c.loop-k.invariant

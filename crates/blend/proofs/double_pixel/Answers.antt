@@ -2,7 +2,6 @@
 use mathlib.Core.Path.{◌≡◌, ◌∙◌}
 use Prim.Native.Nat.{◌+◌, ◌*◌}
 use native.Mathlib.Omega.{arith}
-use Rattle.picture.proofs.Sizes.{room_is}
 use Rattle.picture.proofs.Spans.{span_same, span_join}
 use Rattle.passes.specs.Passes.{double}
 use Rattle.passes.specs.Written.{lane}
@@ -10,13 +9,6 @@ use Rattle.passes.proofs.Written.{element_made}
 use Rattle.blend.proofs.Pixels.{pixels_mix}
 use Rattle.blend.proofs.Outputs.{odd_inside, even_inside}
 use Rattle.blend.proofs.double_pixel.Goals as goal
-
-pub write_pixel-requires-2 : goal.write_pixel-requires-2
-write_pixel-requires-2 c = omega (arith, c.before.before.before.before.before.before)
-
-pub shape_of-dst : goal.shape_of-dst
-shape_of-dst c =
-    c.write_pixel-2.auto.dst ∙ c.write_pixel.auto.dst
 
 pub returns : goal.returns
 returns c =
@@ -41,9 +33,3 @@ returns c =
     (λ k _ l.
     pixels_mix src a.start x (x + 1) (x + 1) x p q q p c.weigh_pixels-2.ensures k l
     ∙ even_inside mode a.len x (lane src a.start 4 k) c.requires.0))))
-
-pub overflow_mul-at : goal.overflow_mul-at
-overflow_mul-at c = omega (arith, room_is)
-
-pub returns-then-dst-o : goal.returns-then-dst-o
-returns-then-dst-o c = absurd (omega arith)

@@ -8,7 +8,7 @@ use Rattle.picture.proofs.Spans.{within, span_same}
 use Rattle.passes.specs.Passes.{halve}
 use Rattle.passes.specs.Written.{lane}
 use Rattle.passes.proofs.Written.{element_made}
-use Rattle.blend.proofs.Tapped.{element_ends, taps_fit, taps_mix, taps_room}
+use Rattle.blend.proofs.Tapped.{taps_fit, taps_mix, taps_room}
 use Rattle.blend.proofs.Outputs.{halved_inside}
 use Rattle.blend.proofs.halve_lanes.Goals as goal
 use Rattle.blend.proofs.halve_lanes.Goals.{Start}
@@ -16,11 +16,6 @@ use Rattle.blend.proofs.halve_lanes.Goals.{Start}
 -- the output lies within the buffer
 room : (st : Start) → st.args.o + st.args.x * st.args.stride + st.args.stride ≤ length st.args.dst.now
 room st = omega (arith, within st.args.o st.args.stride st.args.x (st.args.x + 1) (omega arith), st.requires.2.dst_ends)
-
-pub taps_of-t-requires : goal.taps_of-t-requires
-taps_of-t-requires c =
-    let at = 2 * c.args.x in
-    omega (arith, element_ends c.requires.2 (at - 1) (omega arith), element_ends c.requires.2 at (omega arith), element_ends c.requires.2 (at + 1) (omega arith), element_ends c.requires.2 (at + 2) (omega arith))
 
 pub blend_lanes-requires : goal.blend_lanes-requires
 blend_lanes-requires c =
@@ -31,9 +26,6 @@ blend_lanes-requires c =
     (taps_fit (Some (at - 1)) (Some at) (Some (at + 1)) (Some (at + 2)) a.stride c.taps_of-t.ensures a.len (omega arith) (omega arith) (omega arith) (omega arith) (omega arith))
     c.requires.2.src_ends
     (room st)
-
-pub shape_of-dst : goal.shape_of-dst
-shape_of-dst c = c.blend_lanes.auto.dst
 
 pub returns : goal.returns
 returns c =
@@ -46,9 +38,3 @@ returns c =
     (λ k _ _.
     taps_mix (Some (at - 1)) (Some at) (Some (at + 1)) (Some (at + 2)) a.stride c.taps_of-t.ensures src a.start k
     ∙ halved_inside mode a.len a.x (lane src a.start a.stride k) c.requires.0 c.requires.1))
-
-pub overflow_mul-x : goal.overflow_mul-x
-overflow_mul-x c = omega (arith, room c.before.before.before.before.before)
-
-pub overflow_add-o : goal.overflow_add-o
-overflow_add-o c = omega (arith, room c.before.before.before.before.before)

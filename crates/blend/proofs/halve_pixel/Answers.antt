@@ -9,9 +9,6 @@ use Rattle.blend.proofs.Pixels.{pixels_mix}
 use Rattle.blend.proofs.Outputs.{halved_inside}
 use Rattle.blend.proofs.halve_pixel.Goals as goal
 
-pub shape_of-dst : goal.shape_of-dst
-shape_of-dst c = c.write_pixel.auto.dst
-
 pub returns : goal.returns
 returns c =
     let a = c.args in
