@@ -2,13 +2,14 @@
 ghost use Rattle.std.specs.Prelude.{◌≡◌, ℕ, ◌+◌, ◌*◌, ◌<◌, ◌≤◌, length};
 ghost use Rattle.picture.specs.Answer.{answered};
 ghost use Rattle.picture.specs.Planes.{laid};
+ghost use Rattle.picture.specs.Refusal.{number_of};
 ghost use Rattle.picture.specs.Sizes.{side_room, Pictured};
 ghost use Rattle.picture.specs.Spans.{Run};
 ghost use Rattle.area.specs.Area.{alpha_plane, entry, corner, built};
 ghost use Rattle.area.specs.Outcome.{build_outcome};
 
 use crate::table::{corner, short_table};
-use picture::FullSize;
+use picture::{FullSize, Refusal};
 
 // Row y of the table: the row's sum so far, and what stands above.
 fn build_row(picture: &[u8], table: &mut [u32], w: usize, y: usize)
@@ -19,13 +20,11 @@ fn build_row(picture: &[u8], table: &mut [u32], w: usize, y: usize)
     ensures { Run 0 table.old table.new (y * w) w (λ x. entry (alpha_plane picture.now w) (x + 1) (y + 1)) }
 {
     let mut sum: u32 = 0;
-    let mut x: usize = 0;
-    while x < w {
+    for x in 0..w {
         let at = y * w + x;
-        sum = std::num::wrapping_add_u32(sum, picture[4 * at + 3] as u32);
+        sum = sum.wrapping_add(u32::from(picture[4 * at + 3]));
         let above = corner(table, w, x + 1, y);
-        table[at] = std::num::wrapping_add_u32(above, sum);
-        x += 1;
+        table[at] = above.wrapping_add(sum);
     }
 }
 
@@ -37,26 +36,18 @@ fn build_rows(picture: &[u8], size: FullSize, table: &mut [u32])
 {
     let w = size.width();
     let h = size.height();
-    let mut y = 0;
-    while y < h {
+    for y in 0..h {
         build_row(picture, table, w, y);
-        y += 1;
     }
 }
 
 // Builds the table of a picture of w by h pixels in the first entries of a lent one. It gives refusals 1, 2 and 3.
-pub fn build(picture: &[u8], w: u32, h: u32, table: &mut [u32]) -> u32
-    ensures { answered result table.new ≡ build_outcome picture.now w h table.old }
+#[tactic(auto, unfolding(picture::specs::Refusal::number_of, picture::specs::Refusal::number, picture::specs::Refusal::first_of, picture::specs::Refusal::first_else, picture::specs::Answer::settled, crate::specs::Outcome::build_outcome), using(crate::proofs::Conditions::number_some, crate::proofs::Conditions::long_enough, picture::proofs::Sizes::whole))]
+pub fn build(picture: &[u8], w: u32, h: u32, table: &mut [u32]) -> Result<(), Refusal>
+    ensures { answered (number_of result) table.new ≡ build_outcome picture.now w h table.old }
 {
-    if picture::wrong_sides(w, h) {
-        return picture::WRONG_SIDES;
-    }
-    if picture::wrong_length(picture.len(), w, h) {
-        return picture::WRONG_LENGTH;
-    }
-    if short_table(table.len(), w, h) {
-        return picture::TOO_SHORT;
-    }
+    picture::check_picture(picture.len(), w, h)?;
+    picture::refuse_if(short_table(table.len(), w, h), Refusal::TooShort)?;
     build_rows(picture, picture::full_size(w, h), table);
-    0
+    Ok(())
 }

@@ -1,7 +1,10 @@
-// A table's length, its numbers at a corner, and their difference.
+// A table's length, the checks of a call on one, and its number at a corner.
 ghost use Rattle.std.specs.Prelude.{◌≡◌, ◌*◌, ◌≤◌, length};
-ghost use Rattle.area.specs.Area.{less, corner};
-ghost use Rattle.area.specs.Outcome.{short_table};
+ghost use Rattle.picture.specs.Refusal.{first_of, number_of};
+ghost use Rattle.area.specs.Area.{corner};
+ghost use Rattle.area.specs.Outcome.{short_table, table_checks};
+
+use picture::Refusal;
 
 // Refusal 3's condition, of a table. No product wraps, whatever the sides are.
 pub fn short_table(entries: usize, w: u32, h: u32) -> bool
@@ -10,11 +13,13 @@ pub fn short_table(entries: usize, w: u32, h: u32) -> bool
     entries < w as usize * h as usize
 }
 
-// a - b, modulo 2^32.
-pub fn less(a: u32, b: u32) -> u32
-    ensures { result ≡ less a b }
+// Checks 1 and 3, which a call that is lent a table alone begins with.
+#[tactic(auto, unfolding(picture::specs::Refusal::number_of, picture::specs::Refusal::number, picture::specs::Refusal::first_of, picture::specs::Refusal::first_else))]
+pub fn check_table(entries: usize, w: u32, h: u32) -> Result<(), Refusal>
+    ensures { number_of result ≡ first_of (table_checks entries w h) }
 {
-    std::num::wrapping_sub_u32(a, b)
+    picture::refuse_if(picture::wrong_sides(w, h), Refusal::WrongSides)?;
+    picture::refuse_if(short_table(entries, w, h), Refusal::TooShort)
 }
 
 // The number of all left of x and above y: 0 at the border.
@@ -23,10 +28,7 @@ pub fn corner(table: &[u32], w: usize, x: usize, y: usize) -> u32
     requires fact_2 { y * w ≤ length table.now }
     ensures { result ≡ corner table.now w x y }
 {
-    if x == 0 {
-        return 0;
-    }
-    if y == 0 {
+    if x == 0 || y == 0 {
         return 0;
     }
     table[(y - 1) * w + (x - 1)]
