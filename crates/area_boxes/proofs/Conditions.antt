@@ -31,3 +31,6 @@ right_box w h x y wide high =
   where
     above : (wide * high ≡ 0 → ⊥) → 1 ≤ wide * high
     above f = omega arith
+
+pub box_inside : (w h x y wide high : ℕ) → wrong_box w h x y wide high ≡ false → (x + wide ≤ w) × (y + high ≤ h)
+box_inside w h x y wide high e = let i = (right_box w h x y wide high).0 e in (i.right, i.below)

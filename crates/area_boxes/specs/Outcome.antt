@@ -1,13 +1,11 @@
 -- What the entry `box_sum` answers, for any input.
-use Rattle.std.specs.Prelude.{Bool, ◌||◌, List, [], ◌∷◌, ◌++◌, ℕ, ◌+◌, ◌*◌, ltb, length}
-use Rattle.picture.specs.Refusal.{Check, check, first_of, zero_or_above}
+use Rattle.std.specs.Prelude.{Bool, ◌||◌, Result, Ok, Err, List, [], ◌∷◌, ◌++◌, ℕ, ◌+◌, ◌*◌, ltb, length}
+use Rattle.picture.specs.Refusal.{number, Check, check, first_of, zero_or_above}
+use Rattle.picture.specs.declared.checks.Refusal.{Refusal}
 use Rattle.picture.specs.Answer.{Answer, answered, settled}
 use Rattle.area.specs.Area.{boxed, largest_box}
 use Rattle.area.specs.Outcome.{table_checks}
-use Rattle.area_boxes.specs.declared.boxes.BoxRefusal.{BoxRefusal}
-use Rattle.area_boxes.specs.declared.boxes.BoxRefusal.TheVariants.{WrongSides, TooShort, WrongBox}
-use Rattle.area_boxes.specs.declared.boxes.Boxed.{Boxed}
-use Rattle.area_boxes.specs.declared.boxes.Boxed.TheVariants.{Refused, Sum}
+use Rattle.area_boxes.specs.declared.boxes.AreaSum.{AreaSum}
 
 -- 20: the box is empty or has more pixels than the largest, or a part of it lies outside the picture
 unfoldable pub wrong_box : ℕ → ℕ → ℕ → ℕ → ℕ → ℕ → Bool
@@ -17,16 +15,10 @@ wrong_box w h x y wide high = zero_or_above largest_box (wide * high) || (ltb w 
 abbrev pub box_checks : ℕ → ℕ → ℕ → ℕ → ℕ → ℕ → ℕ → List Check
 box_checks entries w h x y wide high = table_checks entries w h ++ check 20 (wrong_box w h x y wide high) ∷ []
 
--- the number of each refusal of `box_sum`
-abbrev pub box_number : BoxRefusal → ℕ
-box_number WrongSides = 1
-box_number TooShort = 3
-box_number WrongBox = 20
-
 -- the number and the sum of each case of the answer; a refused sum is 0
-abbrev pub box_answer : Boxed → Answer ℕ
-box_answer (Refused r) = answered (box_number r) 0
-box_answer (Sum s) = answered 0 s.alphas
+abbrev pub box_answer : Result AreaSum Refusal → Answer ℕ
+box_answer (Err r) = answered (number r) 0
+box_answer (Ok s) = answered 0 s.alphas
 
 -- the first refusal, and a sum of 0; or the box's sum
 unfoldable pub box_outcome : List ℕ → ℕ → ℕ → ℕ → ℕ → ℕ → ℕ → Answer ℕ

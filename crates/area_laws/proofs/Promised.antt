@@ -17,15 +17,16 @@ use lib.ListN.{length, get_or, set, drop, length-set}
 use mir.Syntax.{w8}
 use mir.Val.{Fits}
 use Rattle.picture.specs.Planes.{Plane, chan, laid}
-use Rattle.picture.specs.Refusal.{first_of, wrong_sides, wrong_length}
+use Rattle.std.specs.Prelude.{Result, Ok}
+use Rattle.picture.specs.declared.checks.Refusal.{Refusal}
+use Rattle.picture.specs.Refusal.{number_of, first_of, wrong_sides, wrong_length}
 use Rattle.picture.proofs.Settled.{Reading, read}
 use Rattle.picture.proofs.Spans.{le_or_lt}
 use Rattle.area.specs.Area.{alpha_plane, area, box_sum, top, less, built, boxed, updated}
 use Rattle.area_updates.specs.Outcome.{update_checks, update_outcome}
 use Rattle.area_boxes.specs.Outcome.{box_outcome}
 use Rattle.area.specs.Outcome.{short_table, build_outcome}
-use Rattle.area_boxes.specs.declared.boxes.Boxed.{Boxed}
-use Rattle.area_boxes.specs.declared.boxes.Boxed.TheVariants.{Sum}
+use Rattle.area_boxes.specs.declared.boxes.AreaSum.{AreaSum}
 use Rattle.area_boxes.proofs.Conditions.{InPicture, right_box}
 use Rattle.area.proofs.Conditions.{long_table}
 use Rattle.area_laws.proofs.Determined.{table_once, box_once}
@@ -50,7 +51,7 @@ pub record BuildCall : Type 1 where
   pub κs : Lfts 2
   pub args : Dens κs builder-kinds.ps
   pub left : AtExit (ended_of 2 builder-kinds.ps builder-kinds.r) κs
-  pub meets : builder.Post κs args 0 left
+  pub meets : builder.Post κs args (Ok tt) left
 
 abbrev pub picture : BuildCall → List ℕ
 picture b = b.args.0.now
@@ -71,6 +72,7 @@ abbrev pub alphas : BuildCall → Plane
 alphas b = alpha_plane (picture b) (width b)
 
 done : (b : BuildCall) → BuildAccepted (picture b) (width b) (height b) (lent_table b) (table b)
+unfolding number_of
 done b = build_accepted (picture b) (width b) (height b) (lent_table b) (table b) b.meets
 
 -- entry y·w + x is the sum of all alphas above and to the left, itself included, modulo 2^32; no other entry changes, and none comes or goes
@@ -96,7 +98,7 @@ sums b =
 pub record BoxCall : Type 1 where
   pub κs : Lfts 1
   pub args : Dens κs box-kinds.ps
-  pub answer : Boxed
+  pub answer : Result AreaSum Refusal
   pub left : AtExit (ended_of 1 box-kinds.ps box-kinds.r) κs
   pub meets : box.Post κs args answer left
 
@@ -111,16 +113,16 @@ box_height c = c.args.1.1.0
 
 -- the box: its first column and row, and how many of each it has
 abbrev pub column : BoxCall → ℕ
-column c = c.args.1.1.1.0
+column c = c.args.1.1.1.0.x
 
 abbrev pub row : BoxCall → ℕ
-row c = c.args.1.1.1.1.0
+row c = c.args.1.1.1.0.y
 
 abbrev pub wide : BoxCall → ℕ
-wide c = c.args.1.1.1.1.1.0
+wide c = c.args.1.1.1.0.wide
 
 abbrev pub high : BoxCall → ℕ
-high c = c.args.1.1.1.1.1.1.0
+high c = c.args.1.1.1.0.high
 
 -- from 1 to 16843009 pixels, each in the picture
 abbrev pub RightBox : BoxCall → Type 0
@@ -128,10 +130,10 @@ RightBox c = InPicture (box_width c) (box_height c) (column c) (row c) (wide c) 
 
 -- of any table that is long enough: the same combination of at most four entries
 pub any_table : (c : BoxCall) → wrong_sides (box_width c) (box_height c) ≡ false → box_width c * box_height c ≤ length (box_table c) → RightBox c →
-    c.answer ≡ Sum (record { alphas = boxed (box_table c) (box_width c) (column c) (row c) (wide c) (high c) })
+    c.answer ≡ Ok (record { alphas = boxed (box_table c) (box_width c) (column c) (row c) (wide c) (high c) })
 unfolding box_outcome
 any_table c sides long inside =
-    box_once c.answer (Sum (record { alphas = boxed (box_table c) (box_width c) (column c) (row c) (wide c) (high c) }))
+    box_once c.answer (Ok (record { alphas = boxed (box_table c) (box_width c) (column c) (row c) (wide c) (high c) }))
     (c.meets
     ∙ sym (at_end (length (box_table c)) (box_width c) (box_height c) _ 0 _ sides
     ((long_table (length (box_table c)) (box_width c) (box_height c)).1 long)
@@ -154,19 +156,19 @@ module _ (b : BuildCall) {t : List ℕ} {w h : ℕ} (et : t ≡ table b) (ew : w
 
 -- of a table that `build` left: the plain sum of the box's alphas
 pub plain_sum : (b : BuildCall) → LentBytes (picture b) → (c : BoxCall) → box_table c ≡ table b → box_width c ≡ width b → box_height c ≡ height b → RightBox c →
-    c.answer ≡ Sum (record { alphas = box_sum (alphas b) (column c) (row c) (wide c) (high c) })
+    c.answer ≡ Ok (record { alphas = box_sum (alphas b) (column c) (row c) (wide c) (high c) })
 plain_sum b bytes c t w h inside =
     let right = right_table b t w h in
     any_table c right.0 right.1 inside
-    ∙ ap (λ (n : ℕ). Sum (record { alphas = n })) (box_in b t w h bytes (column c) (row c) (wide c) (high c) inside)
+    ∙ ap (λ (n : ℕ). Ok (record { alphas = n })) (box_in b t w h bytes (column c) (row c) (wide c) (high c) inside)
 
 -- ---- a call of `update`: its table, sides, place and alphas, and what it answered and left
 pub record UpdateCall : Type 1 where
   pub κs : Lfts 1
   pub args : Dens κs update-kinds.ps
-  pub number : ℕ
+  pub answer : Result Unit Refusal
   pub left : AtExit (ended_of 1 update-kinds.ps update-kinds.r) κs
-  pub meets : update.Post κs args number left
+  pub meets : update.Post κs args answer left
 
 abbrev pub before : UpdateCall → List ℕ
 before u = u.args.0.now
@@ -189,6 +191,10 @@ new_alpha u = u.args.1.1.1.1.1.0
 abbrev pub after : UpdateCall → List ℕ
 after u = u.left.0.now
 
+-- the number that C is answered
+abbrev number : UpdateCall → ℕ
+number u = number_of u.answer
+
 -- entry k lies at or below and right of the place
 pub record Reached (u : UpdateCall) (k : ℕ) : Type 0 where
   pub inside : k < update_width u * update_height u
@@ -196,16 +202,16 @@ pub record Reached (u : UpdateCall) (k : ℕ) : Type 0 where
   pub below : place u / update_width u ≤ k / update_width u
 
 reading : (u : UpdateCall) → Reading (first_of (update_checks (length (before u)) (update_width u) (update_height u) (place u))) (before u)
-    (updated (before u) (update_width u) (update_height u) (place u % update_width u) (place u / update_width u) (old_alpha u) (new_alpha u)) u.number (after u)
+    (updated (before u) (update_width u) (update_height u) (place u % update_width u) (place u / update_width u) (old_alpha u) (new_alpha u)) (number u) (after u)
 unfolding update_outcome
-reading u = read _ _ _ u.number (after u) u.meets
+reading u = read _ _ _ (number u) (after u) u.meets
 
 -- whatever it answers, it touches no other entry
 pub touches_only : (u : UpdateCall) (k : ℕ) → (Reached u k → ⊥) → get_or (after u) k 0 ≡ get_or (before u) k 0
 unfolding updated
-touches_only u k out = by (eqb u.number 0) refl
+touches_only u k out = by (eqb (number u) 0) refl
   where
-    finished : u.number ≡ 0 → get_or (after u) k 0 ≡ get_or (before u) k 0
+    finished : number u ≡ 0 → get_or (after u) k 0 ≡ get_or (before u) k 0
     finished z =
         ap (λ (t : List ℕ). get_or t k 0) ((reading u).finished z)
         ∙ ⊎_elim
@@ -216,17 +222,17 @@ touches_only u k out = by (eqb u.number 0) refl
         (λ r d. out (record { inside = omega (arith, mul_comm (update_width u) (update_height u)); right = r; below = d })))
         (le_or_lt (update_height u * update_width u) k)
 
-    by : (b : Bool) → eqb u.number 0 ≡ b → get_or (after u) k 0 ≡ get_or (before u) k 0
-    by true z = finished (eqb-true u.number 0 z)
-    by false z = ap (λ (t : List ℕ). get_or t k 0) ((reading u).unchanged (eqb-false u.number 0 z))
+    by : (b : Bool) → eqb (number u) 0 ≡ b → get_or (after u) k 0 ≡ get_or (before u) k 0
+    by true z = finished (eqb-true (number u) 0 z)
+    by false z = ap (λ (t : List ℕ). get_or t k 0) ((reading u).unchanged (eqb-false (number u) 0 z))
 
 -- and where it is done, each entry that it reaches gains the new alpha less the old one, modulo 2^32
-pub touches : (u : UpdateCall) (k : ℕ) → u.number ≡ 0 → Reached u k → get_or (after u) k 0 ≡ (get_or (before u) k 0 + less (new_alpha u) (old_alpha u)) % top
-unfolding updated
+pub touches : (u : UpdateCall) (k : ℕ) → u.answer ≡ Ok tt → Reached u k → get_or (after u) k 0 ≡ (get_or (before u) k 0 + less (new_alpha u) (old_alpha u)) % top
+unfolding updated number_of
 touches u k z r =
     let w = update_width u in
     let h = update_height u in
-    ap (λ (t : List ℕ). get_or t k 0) ((reading u).finished z)
+    ap (λ (t : List ℕ). get_or t k 0) ((reading u).finished (ap number_of z))
     ∙ laid_below (h * w) _ (before u) k (omega (arith, r.inside, mul_comm w h))
     ∙ gained_there (before u) w (place u % w) (place u / w) (less (new_alpha u) (old_alpha u)) k r.right r.below
 
@@ -235,9 +241,9 @@ touches u k z r =
 pub record Afresh (b : BuildCall) (u : UpdateCall) : Type 1 where
   pub κs : Lfts 2
   pub args : Dens κs builder-kinds.ps
-  pub number : ℕ
+  pub answer : Result Unit Refusal
   pub left : AtExit (ended_of 2 builder-kinds.ps builder-kinds.r) κs
-  pub meets : builder.Post κs args number left
+  pub meets : builder.Post κs args answer left
   pub changed : args.0.now ≡ set (picture b) (4 * place u + 3) (new_alpha u)
   pub same_width : args.1.0 ≡ width b
   pub same_height : args.1.1.0 ≡ height b
@@ -254,7 +260,8 @@ pub record Carries (b : BuildCall) (u : UpdateCall) : Type 0 where
   pub new_fits : Fits w8 (new_alpha u)
 
 pub rebuilt : (b : BuildCall) → LentBytes (picture b) → (u : UpdateCall) → Carries b u → (f : Afresh b u) →
-    (u.number ≡ 0) × (f.number ≡ 0) × (after u ≡ f.left.1.1.1.0.now)
+    (u.answer ≡ Ok tt) × (f.answer ≡ Ok tt) × (after u ≡ f.left.1.1.1.0.now)
+unfolding number_of
 rebuilt b bytes u c f =
     let a = done b in
     let w = width b in
@@ -262,13 +269,13 @@ rebuilt b bytes u c f =
     let byte = (bytes (4 * place u + 3)).fits in
     let now-set = set (picture b) (4 * place u + 3) (new_alpha u) in
     let updates =
-    table_once
+    table_once {r₂ = Ok tt}
     (u.meets
     ∙ ap (λ (t : List ℕ). update_outcome t (update_width u) (update_height u) (place u) (old_alpha u) (new_alpha u)) (c.table_left ∙ a.is)
     ∙ ap₂ (λ (m n : ℕ). update_outcome (laid (built w h (alphas b)) (lent_table b)) m n (place u) (old_alpha u) (new_alpha u)) c.same_width c.same_height
     ∙ sym (update_built (picture b) (lent_table b) w h (place u) (old_alpha u) (new_alpha u) a.sides a.exact a.long c.inside c.old_is (omega (arith, c.old_is)) (omega (arith, c.new_fits.fits)))) in
     let builds =
-    table_once
+    table_once {r₂ = Ok tt}
     (f.meets
     ∙ ap (λ (p : List ℕ). build_outcome p f.args.1.0 f.args.1.1.0 f.args.1.1.1.0.now) f.changed
     ∙ ap₂ (λ (m n : ℕ). build_outcome now-set m n f.args.1.1.1.0.now) f.same_width f.same_height

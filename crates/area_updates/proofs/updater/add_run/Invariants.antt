@@ -1,11 +1,8 @@
 -- The entries from `start` up to k have gained, and no other has changed.
-use Rattle.std.proofs.Common.{◌≡◌, ◌+◌, ◌-◌, ◌%◌, ◌≤◌, length, get_or}
+use Rattle.std.proofs.Common.{◌+◌, ◌%◌, get_or}
 use Rattle.picture.specs.Spans.{Span}
 use Rattle.area.specs.Area.{top}
 use Rattle.area_updates.proofs.updater.add_run.Given as goal
 
 abbrev pub invariant-loop-k : goal.invariant-loop-k
-invariant-loop-k l = (l.start ≤ l.k) × (l.k ≤ l.end) × (length l.table ≡ length l.initial.table) × Span 0 l.initial.table l.table 0 l.start l.k (λ j. (get_or l.initial.table j 0 + l.gain) % top)
-
-abbrev pub decreases-loop-k : goal.decreases-loop-k
-decreases-loop-k l = l.end - l.k
+invariant-loop-k l = Span 0 l.initial.table l.table 0 l.start l.k (λ j. (get_or l.initial.table j 0 + l.gain) % top)
