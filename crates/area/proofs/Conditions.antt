@@ -1,8 +1,5 @@
 -- Check 3 as a proposition beside its Bool: it does not refuse exactly where its condition holds.
-use Rattle.std.proofs.Common.{◌≡◌, ℕ, ◌*◌, ◌<◌, ◌≤◌, arith, false, ◌↔◌, ltb-false, le-ltb}
-use Rattle.picture.specs.Refusal.{number}
-use Rattle.picture.specs.declared.checks.Refusal.{Refusal}
-use Rattle.picture.specs.declared.checks.Refusal.TheVariants.{WrongSides}
+use Rattle.std.proofs.Common.{◌≡◌, ℕ, ◌*◌, ◌≤◌, false, ◌↔◌, ltb-false, le-ltb}
 use Rattle.area.specs.Outcome.{short_table}
 
 -- 3: at least wh entries
@@ -12,9 +9,3 @@ long_table entries w h = (ltb-false entries (w * h), le-ltb entries (w * h))
 
 pub long_enough : (entries w h : ℕ) → short_table entries w h ≡ false → w * h ≤ entries
 long_enough entries w h = (long_table entries w h).0
-
--- no refusal has the number 0, which means that the call is done
-pub number_some : (r : Refusal) → 0 < number r
-unfolding number
-number_some WrongSides = omega arith
-number_some _ = omega arith

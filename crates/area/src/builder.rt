@@ -42,7 +42,7 @@ fn build_rows(picture: &[u8], size: FullSize, table: &mut [u32])
 }
 
 // Builds the table of a picture of w by h pixels in the first entries of a lent one. It gives refusals 1, 2 and 3.
-#[tactic(auto, unfolding(picture::specs::Refusal::number_of, picture::specs::Refusal::number, picture::specs::Refusal::first_of, picture::specs::Refusal::first_else, picture::specs::Answer::settled, crate::specs::Outcome::build_outcome), using(crate::proofs::Conditions::number_some, crate::proofs::Conditions::long_enough, picture::proofs::Sizes::whole))]
+#[tactic(auto, unfolding(picture::specs::Refusal::number_of, picture::specs::Refusal::number, picture::specs::Refusal::first_of, picture::specs::Refusal::first_else, picture::specs::Answer::settled, crate::specs::Outcome::build_outcome), using(picture::proofs::Refused::number_some, crate::proofs::Conditions::long_enough, picture::proofs::Sizes::whole))]
 pub fn build(picture: &[u8], w: u32, h: u32, table: &mut [u32]) -> Result<(), Refusal>
     ensures { answered (number_of result) table.new ≡ build_outcome picture.now w h table.old }
 {

@@ -53,7 +53,7 @@ fn box_of(table: &[u32], w: usize, b: PixelBox) -> u32
 }
 
 // The sum of the alphas of a box. It gives refusals 1, 3 and 20.
-#[tactic(auto, unfolding(picture::specs::Refusal::number_of, picture::specs::Refusal::number, picture::specs::Refusal::first_of, picture::specs::Refusal::first_else, picture::specs::Answer::settled, crate::specs::Outcome::box_outcome), using(area::proofs::Conditions::number_some, area::proofs::Conditions::long_enough, picture::proofs::Sizes::full_sized, crate::proofs::Conditions::box_inside, area::proofs::Entries::rows_le))]
+#[tactic(auto, unfolding(picture::specs::Refusal::number_of, picture::specs::Refusal::number, picture::specs::Refusal::first_of, picture::specs::Refusal::first_else, picture::specs::Answer::settled, crate::specs::Outcome::box_outcome), using(picture::proofs::Refused::number_some, area::proofs::Conditions::long_enough, picture::proofs::Sizes::full_sized, crate::proofs::Conditions::box_inside, area::proofs::Entries::rows_le))]
 pub fn box_sum(table: &[u32], w: u32, h: u32, b: PixelBox) -> Result<AreaSum, Refusal>
     ensures { box_answer result ≡ box_outcome table.now w h b.x b.y b.wide b.high }
 {

@@ -10,7 +10,7 @@ use Rattle.picture.specs.Answer.{Answer, answered}
 use Rattle.picture.specs.Refusal.{number_of}
 use Rattle.picture.specs.declared.checks.Refusal.{Refusal}
 use Rattle.picture.proofs.Answers.{undone}
-use Rattle.grading.proofs.Refused.{number_of_once, answer_of, answer_undone}
+use Rattle.picture.proofs.Refused.{number_of_once, answer_of, answer_undone}
 use Rattle.area_boxes.specs.Outcome.{box_answer}
 use Rattle.area_boxes.specs.declared.boxes.AreaSum.{AreaSum}
 use Rattle.area_boxes.proofs.boxes.box_sum.Reads as box

@@ -47,7 +47,7 @@ fn add_rows(table: &mut [u32], size: FullSize, x: usize, y: usize, gain: u32)
 }
 
 // Carries the change of the alpha at a place from old to new into the table. It gives refusals 1, 3 and 20.
-#[tactic(auto, unfolding(picture::specs::Refusal::number_of, picture::specs::Refusal::number, picture::specs::Refusal::first_of, picture::specs::Refusal::first_else, picture::specs::Answer::settled, crate::specs::Outcome::update_outcome, area::specs::Area::updated, area::specs::Area::less), using(area::proofs::Conditions::number_some, area::proofs::Conditions::long_enough, picture::proofs::Sizes::full_sized, crate::proofs::Conditions::place_inside))]
+#[tactic(auto, unfolding(picture::specs::Refusal::number_of, picture::specs::Refusal::number, picture::specs::Refusal::first_of, picture::specs::Refusal::first_else, picture::specs::Answer::settled, crate::specs::Outcome::update_outcome, area::specs::Area::updated, area::specs::Area::less), using(picture::proofs::Refused::number_some, area::proofs::Conditions::long_enough, picture::proofs::Sizes::full_sized, crate::proofs::Conditions::place_inside))]
 pub fn update(
     table: &mut [u32],
     w: u32,

@@ -30,7 +30,7 @@ pub fn scan(picture: &[u8], size: FullSize) -> Option<Place>
 }
 
 // The first pixel of which a channel exceeds alpha, or that there is none. It gives refusals 1 and 2.
-#[tactic(auto, unfolding(picture::specs::Refusal::number_of, picture::specs::Refusal::first_of, picture::specs::Refusal::first_else, picture::specs::Answer::settled, crate::specs::Premultiplied::checked), using(crate::proofs::Refused::number_some, picture::proofs::Sizes::whole))]
+#[tactic(auto, unfolding(picture::specs::Refusal::number_of, picture::specs::Refusal::first_of, picture::specs::Refusal::first_else, picture::specs::Answer::settled, crate::specs::Premultiplied::checked), using(picture::proofs::Refused::number_some, picture::proofs::Sizes::whole))]
 pub fn check(picture: &[u8], w: u32, h: u32) -> Result<Option<Place>, Refusal>
     ensures { finding result ≡ checked picture.now w h }
 {

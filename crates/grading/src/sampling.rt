@@ -16,7 +16,7 @@ pub struct View<'a> {
 }
 
 // The first of refusals 1, 2 and 9 that a view is given.
-#[tactic(auto, unfolding(picture::specs::Refusal::number_of, picture::specs::Refusal::number, picture::specs::Refusal::first_of, picture::specs::Refusal::first_else, crate::specs::Sampling::view_refusal), using(crate::proofs::Refused::number_some))]
+#[tactic(auto, unfolding(picture::specs::Refusal::number_of, picture::specs::Refusal::number, picture::specs::Refusal::first_of, picture::specs::Refusal::first_else, crate::specs::Sampling::view_refusal), using(picture::proofs::Refused::number_some))]
 pub fn check_view(picture: &[u8], w: u32, h: u32, edge: u32) -> Result<(), Refusal>
     ensures { number_of result ≡ view_refusal picture.now w h edge }
 {

@@ -4,9 +4,11 @@ use mathlib.Core.List.{List}
 use Prim.Native.Nat.{ℕ, zero, suc, ◌*◌, ◌^◌, ◌%◌, ◌≤◌, ◌<◌}
 use native.Mathlib.Nat.{pow-suc, pow-le-pow_right, one-le-pow, mod-eq_of_lt, mul-le-mul}
 use native.Mathlib.Omega.{arith}
+use mathlib.Core.Bool.{false}
+use borrow.Author.Tests.{ltb-false}
 use lib.Dec.{lit<}
 use lib.Ieee.{Float}
-use Rattle.picture.specs.Refusal.{max_decimations}
+use Rattle.picture.specs.Refusal.{max_decimations, too_deep}
 use Rattle.spread.specs.Spread.{moment_of, decimation_term, spread_of, WholeKernel}
 use Rattle.spread.proofs.Moments.{moment_fits}
 
@@ -23,6 +25,11 @@ four_pos n = one-le-pow n 4 (lit< tt)
 pub depth_fits : (n : ℕ) → n ≤ max_decimations → n ≤ 15
 unfolding max_decimations
 depth_fits n l = omega arith
+
+-- what check 6 lets through
+pub shallow : (n : ℕ) → too_deep n ≡ false → n ≤ max_decimations
+unfolding too_deep
+shallow n e = ltb-false max_decimations n e
 
 module _ (n : ℕ) (l : n ≤ 15) where
   -- the scale has room

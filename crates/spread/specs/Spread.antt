@@ -1,12 +1,10 @@
 -- The spread report.
-use Rattle.std.specs.Prelude.{◌≡◌, false, List, [], ◌∷◌, ℕ, ◌+◌, ◌-◌, ◌*◌, ◌/◌, ◌^◌, ◌≤◌, Float, length}
-use Rattle.picture.specs.Refusal.{Check, check, first_of, max_taps, wrong_taps, too_deep}
+use Rattle.std.specs.Prelude.{◌≡◌, false, Result, Ok, Err, List, [], ◌∷◌, ℕ, ◌+◌, ◌-◌, ◌*◌, ◌/◌, ◌^◌, ◌≤◌, Float, length}
+use Rattle.picture.specs.Refusal.{number, Check, check, first_of, max_taps, wrong_taps, too_deep}
+use Rattle.picture.specs.declared.checks.Refusal.{Refusal}
 use Rattle.picture.specs.Answer.{Answer, answered, settled}
 use Rattle.binary32.specs.Grid.{numerator, off_grid}
-use Rattle.spread.specs.declared.SpreadRefusal.{SpreadRefusal}
-use Rattle.spread.specs.declared.SpreadRefusal.TheVariants.{WrongTaps, TooDeep, OffGrid}
-use Rattle.spread.specs.declared.Reported.{Reported}
-use Rattle.spread.specs.declared.Reported.TheVariants.{Refused, Found}
+use Rattle.spread.specs.declared.Spread.{Spread}
 
 -- how far tap j is from tap c
 abbrev pub distance : ℕ → ℕ → ℕ
@@ -33,16 +31,10 @@ spread_of ws n = 2 * 4 ^ n * moment_of ws + decimation_term n
 abbrev pub spread_checks : List Float → ℕ → List Check
 spread_checks ws n = check 4 (wrong_taps (length ws)) ∷ check 6 (too_deep n) ∷ check 11 (off_grid ws) ∷ []
 
--- the number of each refusal of the report
-abbrev pub spread_number : SpreadRefusal → ℕ
-spread_number WrongTaps = 4
-spread_number TooDeep = 6
-spread_number OffGrid = 11
-
 -- the number and the spread of each case of the answer
-abbrev pub report : Reported → Answer ℕ
-report (Refused r) = answered (spread_number r) 0
-report (Found s) = answered 0 s.units
+abbrev pub report : Result Spread Refusal → Answer ℕ
+report (Err r) = answered (number r) 0
+report (Ok s) = answered 0 s.units
 
 -- the first refusal, and a spread of 0; or the spread
 unfoldable pub reported : List Float → ℕ → Answer ℕ

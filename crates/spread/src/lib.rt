@@ -4,9 +4,9 @@
 ghost use Rattle.std.specs.Prelude.{◌≡◌, ◌*◌, ◌^◌, ◌≤◌};
 ghost use Rattle.picture.specs.Refusal.{max_decimations};
 ghost use Rattle.binary32.specs.Grid.{numerator};
-ghost use Rattle.spread.specs.Spread.{spread_number, distance, WholeKernel, moment_of, decimation_term, spread_of, report, reported};
+ghost use Rattle.spread.specs.Spread.{WholeKernel, moment_of, decimation_term, spread_of, report, reported};
 
-use binary32::GridWeight;
+use picture::Refusal;
 
 // How many units half a square full-size pixel has.
 const HALF_PIXEL: u64 = 65536;
@@ -17,53 +17,12 @@ pub struct Spread {
     pub units: u64,
 }
 
-// The refusals that the report gives.
-#[derive(Clone, Copy)]
-pub enum SpreadRefusal {
-    WrongTaps,
-    TooDeep,
-    OffGrid,
-}
-
-impl SpreadRefusal {
-    // The refusal's number.
-    pub fn number(self) -> u32
-        ensures { result ≡ spread_number self }
-    {
-        match self {
-            SpreadRefusal::WrongTaps => picture::WRONG_TAPS,
-            SpreadRefusal::TooDeep => picture::TOO_DEEP,
-            SpreadRefusal::OffGrid => picture::OFF_GRID,
-        }
-    }
-}
-
-// What the report answers.
-#[derive(Clone, Copy)]
-pub enum Reported {
-    Refused(SpreadRefusal),
-    Found(Spread),
-}
-
 // The numerator of a weight over 65536, and 0 where it is off the grid.
+#[tactic(auto, unfolding(binary32::specs::Grid::grid_weight, binary32::specs::Grid::numerator))]
 fn numerator(x: f32) -> u64
     ensures { result ≡ numerator x }
 {
-    match binary32::numerator_of(x) {
-        GridWeight::Numerator(m) => m as u64,
-        GridWeight::Off => 0,
-    }
-}
-
-// How far tap j is from tap c.
-fn distance(c: usize, j: usize) -> u64
-    ensures { result ≡ distance c j }
-{
-    if c < j {
-        (j - c) as u64
-    } else {
-        (c - j) as u64
-    }
+    u64::from(binary32::numerator_of(x).unwrap_or(0))
 }
 
 // The sum of numerator times squared distance from the middle tap.
@@ -73,11 +32,9 @@ fn moment(weights: &[f32]) -> u64
 {
     let middle = weights.len() / 2;
     let mut sum: u64 = 0;
-    let mut j = 0;
-    while j < weights.len() {
-        let d = distance(middle, j);
-        sum += numerator(weights[j]) * (d * d);
-        j += 1;
+    for (j, weight) in weights.iter().enumerate() {
+        let d = j.abs_diff(middle) as u64;
+        sum += numerator(*weight) * (d * d);
     }
     sum
 }
@@ -109,17 +66,12 @@ fn spread_of(weights: &[f32], n: u32) -> Spread
 }
 
 // The spread of a blur with these weights and n decimations. It gives refusals 4, 6 and 11.
-pub fn report(weights: &[f32], n: u32) -> Reported
+#[tactic(auto, unfolding(picture::specs::Refusal::number_of, picture::specs::Refusal::number, picture::specs::Refusal::first_of, picture::specs::Refusal::first_else, picture::specs::Answer::settled, crate::specs::Spread::reported), using(crate::proofs::Moments::kernel, crate::proofs::Scales::shallow))]
+pub fn report(weights: &[f32], n: u32) -> Result<Spread, Refusal>
     ensures { report result ≡ reported weights.now n }
 {
-    if picture::wrong_taps(weights.len()) {
-        return Reported::Refused(SpreadRefusal::WrongTaps);
-    }
-    if picture::too_deep(n) {
-        return Reported::Refused(SpreadRefusal::TooDeep);
-    }
-    if binary32::off_grid(weights) {
-        return Reported::Refused(SpreadRefusal::OffGrid);
-    }
-    Reported::Found(spread_of(weights, n))
+    picture::refuse_if(picture::wrong_taps(weights.len()), Refusal::WrongTaps)?;
+    picture::refuse_if(picture::too_deep(n), Refusal::TooDeep)?;
+    picture::refuse_if(binary32::off_grid(weights), Refusal::OffGrid)?;
+    Ok(spread_of(weights, n))
 }
