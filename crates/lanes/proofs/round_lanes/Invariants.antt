@@ -1,5 +1,4 @@
 -- Each turn rounds one sum more.
-use Prim.Native.Nat.{◌-◌, ◌≤◌}
 use lib.Ieee.{nan}
 use lib.ListN.{get_or}
 use Rattle.binary32.specs.Round.{to_byte}

@@ -1,6 +1,6 @@
 -- From zeros each turn adds one tap more.
 use mathlib.Core.Path.{◌≡◌}
-use Prim.Native.Nat.{ℕ, ◌-◌, ◌≤◌, ◌<◌}
+use Prim.Native.Nat.{ℕ, ◌<◌}
 use lib.Ieee.{nan}
 use lib.ListN.{length, get_or}
 use Rattle.lanes.specs.Lanes.{lane_sum}

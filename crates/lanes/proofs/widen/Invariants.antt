@@ -1,5 +1,5 @@
 -- Each turn stores one byte more as a float.
-use Prim.Native.Nat.{◌+◌, ◌-◌, ◌≤◌}
+use Prim.Native.Nat.{◌+◌}
 use lib.Ieee.{nan}
 use lib.ListN.{get_or}
 use Rattle.picture.specs.Spans.{Run}
