@@ -10,6 +10,15 @@ ghost use Rattle.grid_sums.specs.Room.{most_sum, sum_room, Numerators, TapRun, S
 
 use picture::EdgeMode;
 
+// A run of a line: n lanes, from lane `from` of element x on, and whether all that their taps read lies inside.
+#[derive(Clone, Copy)]
+pub struct LineRun {
+    pub x: usize,
+    pub from: usize,
+    pub n: usize,
+    pub inner: bool,
+}
+
 // Whether numerators sum to more than 65536. It stops there, so that the sum of any list has room.
 pub fn is_heavy(numerators: &[u32]) -> bool
     ensures { result ≡ heavy numerators.now }
@@ -71,71 +80,61 @@ fn add_tap(acc: &mut [u32], n: usize, src: &[u8], a: usize, k: u32)
     }
 }
 
-// Of the element that c - d reads, the n lanes from lane `from` on, in a numerator, to the first n sums of acc; where all of it lies inside,
-// the lanes go on over the elements after it.
+// Of the element that c - d reads, a run's lanes, in a numerator, to the first sums of acc; where all of it lies inside, the lanes go on over the
+// elements after it.
 fn add_sample(
     acc: &mut [u32],
-    n: usize,
     src: &[u8],
     start: usize,
     len: usize,
     stride: usize,
-    inner: bool,
-    from: usize,
+    run: LineRun,
     c: usize,
     d: usize,
     k: u32,
     mode: EdgeMode,
 )
-    requires fact_1 { (n ≤ length acc.old) × (k ≤ 65536) }
-    requires fact_2 { ((i : ℕ) → i < n → get_or acc.old i 0 ≤ most_sum) }
+    requires fact_1 { (run.n ≤ length acc.old) × (k ≤ 65536) }
+    requires fact_2 { ((i : ℕ) → i < run.n → get_or acc.old i 0 ≤ most_sum) }
     requires fact_3 { (0 < stride) × (start + len * stride ≤ length src.now) }
     requires fact_4 { Reach len c d }
-    requires fact_5 { TapRun inner c d len stride from n }
-    ensures { Run 0 acc.old acc.new 0 n (λ i. get_or acc.old i 0 + sample mode len (lane src.now start stride ((from + i) % stride)) (c + (from + i) / stride) d * k) }
+    requires fact_5 { TapRun run.inner c d len stride run.from run.n }
+    ensures { Run 0 acc.old acc.new 0 run.n (λ i. get_or acc.old i 0 + sample mode len (lane src.now start stride ((run.from + i) % stride)) (c + (run.from + i) / stride) d * k) }
 {
-    if inner {
-        add_tap(acc, n, src, start + ((c - d) * stride + from), k);
-    } else {
-        match edges::extend(c, d, len, mode) {
-            Some(i) => add_tap(acc, n, src, start + (i * stride + from), k),
-            None => {}
-        }
+    if run.inner {
+        add_tap(acc, run.n, src, start + ((c - d) * stride + run.from), k);
+    } else if let Some(i) = edges::extend(c, d, len, mode) {
+        add_tap(acc, run.n, src, start + (i * stride + run.from), k);
     }
 }
 
-// The first n sums of acc: the lanes of a run, under all numerators.
+// The first sums of acc: the lanes of a run, under all numerators.
 fn add_taps(
     acc: &mut [u32],
-    n: usize,
     src: &[u8],
     start: usize,
     len: usize,
     stride: usize,
-    x: usize,
-    from: usize,
-    inner: bool,
+    run: LineRun,
     numerators: &[u32],
     mode: EdgeMode,
 )
-    requires fact_1 { n ≤ length acc.old }
+    requires fact_1 { run.n ≤ length acc.old }
     requires fact_2 { Numerators numerators.now }
-    requires fact_3 { SumRun src.now start len stride x from n inner (length numerators.now) }
-    ensures { (i : ℕ) → i < n → get_or acc.new i 0 ≡ grid_sum mode numerators.now len (lane src.now start stride ((from + i) % stride)) (x + (from + i) / stride) }
+    requires fact_3 { SumRun src.now start len stride run.x run.from run.n run.inner (length numerators.now) }
+    ensures { (i : ℕ) → i < run.n → get_or acc.new i 0 ≡ grid_sum mode numerators.now len (lane src.now start stride ((run.from + i) % stride)) (run.x + (run.from + i) / stride) }
 {
-    acc[..n].fill(0);
+    acc[..run.n].fill(0);
     let d = numerators.len() / 2;
     for j in 0..numerators.len() {
         add_sample(
             acc,
-            n,
             src,
             start,
             len,
             stride,
-            inner,
-            from,
-            x + j,
+            run,
+            run.x + j,
             d,
             numerators[j],
             mode,
@@ -155,30 +154,25 @@ fn round_sums(dst: &mut [u8], o: usize, n: usize, acc: &[u32])
     }
 }
 
-// n lanes of the line at start, from lane `from` of element x on, convolved into dst from o on.
+// A run of the line at start, convolved into dst from o on.
 pub fn weigh(
     dst: &mut [u8],
     o: usize,
-    n: usize,
     acc: &mut [u32],
     src: &[u8],
     start: usize,
     len: usize,
     stride: usize,
-    x: usize,
-    from: usize,
-    inner: bool,
+    run: LineRun,
     numerators: &[u32],
     mode: EdgeMode,
 )
-    requires fact_1 { o + n ≤ length dst.old }
-    requires fact_2 { n ≤ length acc.old }
+    requires fact_1 { o + run.n ≤ length dst.old }
+    requires fact_2 { run.n ≤ length acc.old }
     requires fact_3 { Numerators numerators.now }
-    requires fact_4 { SumRun src.now start len stride x from n inner (length numerators.now) }
-    ensures { Run 0 dst.old dst.new o n (λ i. whole_convolve mode numerators.now len (lane src.now start stride ((from + i) % stride)) (x + (from + i) / stride)) }
+    requires fact_4 { SumRun src.now start len stride run.x run.from run.n run.inner (length numerators.now) }
+    ensures { Run 0 dst.old dst.new o run.n (λ i. whole_convolve mode numerators.now len (lane src.now start stride ((run.from + i) % stride)) (run.x + (run.from + i) / stride)) }
 {
-    add_taps(
-        acc, n, src, start, len, stride, x, from, inner, numerators, mode,
-    );
-    round_sums(dst, o, n, acc);
+    add_taps(acc, src, start, len, stride, run, numerators, mode);
+    round_sums(dst, o, run.n, acc);
 }

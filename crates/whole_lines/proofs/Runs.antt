@@ -9,7 +9,7 @@ use Rattle.picture.specs.Spans.{Span, Run}
 use Rattle.picture.proofs.Spans.{within, span_at, span_join}
 use Rattle.passes.specs.Passes.{Pass}
 use Rattle.passes.specs.Written.{lane, line_byte}
-use Rattle.whole_lines.specs.declared.LineRun.{LineRun}
+use Rattle.grid_sums.specs.declared.LineRun.{LineRun}
 use Rattle.whole_lines.specs.Lines.{sum_lanes, RunAt}
 
 -- n lanes from byte p of a line on

@@ -2,7 +2,7 @@
 use Rattle.std.specs.Prelude.{◌≡◌, List, ℕ, ◌+◌, ◌*◌, ◌/◌, ◌≤◌, ◌<◌}
 use Rattle.passes.specs.Lines.{Lines}
 use Rattle.grid_sums.specs.Room.{Numerators, TapRun}
-use Rattle.whole_lines.specs.declared.LineRun.{LineRun}
+use Rattle.grid_sums.specs.declared.LineRun.{LineRun}
 
 -- the most lanes of a run: the code's LANES
 abbrev pub sum_lanes : ℕ

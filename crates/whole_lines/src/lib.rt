@@ -12,6 +12,7 @@ ghost use Rattle.grid_sums.specs.Sums.{whole_convolve};
 ghost use Rattle.grid_sums.specs.Room.{Numerators};
 ghost use Rattle.whole_lines.specs.Lines.{sum_lanes, RunAt, WholeLines};
 
+use grid_sums::LineRun;
 use picture::{EdgeMode, LevelSize};
 
 // The most lanes of a run: their sums are 4 KiB of stack, zeroed once a pass.
@@ -19,15 +20,6 @@ const LANES: usize = 1024;
 
 // A band is the rows that this many pixels begin, 32 KiB: turned at once, a larger picture would leave the cache with each turn.
 const BAND: usize = 8192;
-
-// A run of a line: n lanes, from lane `from` of element x on, and whether all that their taps read lies inside.
-#[derive(Clone, Copy)]
-struct LineRun {
-    x: usize,
-    from: usize,
-    n: usize,
-    inner: bool,
-}
 
 // The run at byte p of a line. Where each tap reads inside it goes on to the last element of which that holds; else it ends with its element.
 fn run_at(len: usize, stride: usize, taps: usize, p: usize) -> LineRun
@@ -80,23 +72,19 @@ fn whole_line(
     let mut p = 0;
     while p < size {
         let run = run_at(len, stride, numerators.len(), p);
-        let n = run.n;
         grid_sums::weigh(
             dst,
             o + p,
-            n,
             acc,
             src,
             start,
             len,
             stride,
-            run.x,
-            run.from,
-            run.inner,
+            run,
             numerators,
             mode,
         );
-        p += n;
+        p += run.n;
     }
 }
 

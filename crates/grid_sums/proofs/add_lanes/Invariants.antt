@@ -1,5 +1,5 @@
 -- Each turn adds a product to one sum more, which stands as it came in.
-use Prim.Native.Nat.{◌+◌, ◌-◌, ◌*◌, ◌≤◌}
+use Prim.Native.Nat.{◌+◌, ◌*◌}
 use lib.ListN.{get_or}
 use Rattle.picture.specs.Spans.{Run}
 use Rattle.grid_sums.proofs.add_lanes.Given as goal

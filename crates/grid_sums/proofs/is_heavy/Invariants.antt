@@ -1,7 +1,7 @@
 -- What has been summed and what is left make the whole sum; it stops where it is above 65536.
 use mathlib.Core.Path.{◌≡◌}
-use Prim.Native.Nat.{◌+◌, ◌-◌, ◌≤◌}
-use lib.ListN.{length, drop}
+use Prim.Native.Nat.{◌+◌, ◌≤◌}
+use lib.ListN.{drop}
 use Rattle.binary32.specs.Grid.{sum}
 use Rattle.grid_sums.proofs.is_heavy.Given as goal
 

@@ -1,5 +1,5 @@
 -- Each turn rounds one sum more.
-use Prim.Native.Nat.{◌+◌, ◌-◌, ◌/◌, ◌≤◌}
+use Prim.Native.Nat.{◌+◌, ◌/◌}
 use lib.ListN.{get_or}
 use Rattle.picture.specs.Spans.{Run}
 use Rattle.grid_sums.proofs.round_sums.Given as goal

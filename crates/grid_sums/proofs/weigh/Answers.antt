@@ -14,7 +14,7 @@ round_sums-requires c =
     record {
       fact_1 = p.fact_1;
       fact_2 = omega (arith, c.add_taps.auto.acc, p.fact_2);
-      fact_3 = (λ i h. omega (arith, c.add_taps.ensures i h, grid_fits a.mode a.numerators.now a.src.now a.start a.len a.stride a.x a.from i p.fact_3 (λ k. omega (arith, c.type_inv.src k))));
+      fact_3 = (λ i h. omega (arith, c.add_taps.ensures i h, grid_fits a.mode a.numerators.now a.src.now a.start a.len a.stride a.run.x a.run.from i p.fact_3 (λ k. omega (arith, c.type_inv.src k))));
     }
 
 pub returns : goal.returns

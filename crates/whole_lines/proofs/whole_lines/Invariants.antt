@@ -1,6 +1,5 @@
 -- Each turn makes one line more, and all of them are the pass.
 use mathlib.Core.Path.{◌≡◌}
-use Prim.Native.Nat.{◌-◌, ◌≤◌}
 use lib.ListN.{length}
 use Rattle.passes.proofs.Written.{Lined}
 use Rattle.grid_sums.specs.Sums.{whole_convolve}
