@@ -36,9 +36,6 @@ run_behind {d} {e} {b} {n} {g} i v l h r =
     by_test j m false t = other j (eqb-false j i t) (r.below j m)
 
 module _ {d : List ℕ} {a b : ℕ} {f g : ℕ → ℕ} where
-  pub pair_none : Pair d d a b 0 f g
-  pair_none = record { between = d; first = span_none (omega arith); second = span_none (omega arith) }
-
   -- a value more of each
   pub pair_more : {e : List ℕ} {n v w : ℕ} → Pair d e a b n f g → a + n < b → b + n < length e → v ≡ f n → w ≡ g n → Pair d (set (set e (a + n) v) (b + n) w) a b (n + 1) f g
   pair_more {e} {n} {v} {w} p l h q r =

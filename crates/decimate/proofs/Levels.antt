@@ -8,17 +8,15 @@ use native.Mathlib.Omega.{arith}
 use borrow.Author.Tests.{eqb-true}
 use lib.Dec.{eqb}
 use lib.ListN.{length, take}
-use lib.Seq.{length-take-le, take_all}
-use Rattle.picture.specs.Sizes.{half, half_level}
+use lib.Seq.{length-take-le}
 use Rattle.picture.specs.declared.EdgeMode.{EdgeMode}
 use Rattle.picture.specs.declared.LevelSize.{LevelSize}
-use Rattle.picture.proofs.Sizes.{half_sized}
 use Rattle.passes.specs.Passes.{Pass}
 use Rattle.passes.specs.Forms.{form_bytes, form_pass}
 use Rattle.passes.specs.Lines.{Lines}
 use Rattle.passes.specs.Written.{passed}
 use Rattle.passes.specs.declared.Form.{Form}
-use Rattle.passes.proofs.Forms.{form_passed, form_grows}
+use Rattle.passes.proofs.Forms.{form_passed}
 use Rattle.passes.proofs.Local.{Local, halve_local, double_local}
 use Rattle.passes.proofs.OneWide.{one_wide}
 use Rattle.turns.proofs.Lines.{as_one}
@@ -28,7 +26,7 @@ use Rattle.decimate.specs.declared.Rows.{Rows}
 use Rattle.resize.specs.Resize.{pass_of, Makes}
 use Rattle.decimate.specs.Rows.{rows_of}
 use Rattle.resize.specs.Room.{ResizeLines}
-use Rattle.decimate.specs.Room.{RowsRoom, Levels, LevelBuffers}
+use Rattle.decimate.specs.Room.{RowsRoom, Levels}
 
 -- either pass looks only at its line
 pub local : (kind : Resize) (mode : EdgeMode) → Local (pass_of kind mode)
@@ -117,19 +115,6 @@ module _ {f : Form} {kind : Resize} {picture scratch : List ℕ} {s t : LevelSiz
         scratch_between = between_fits;
       }
 
-  -- the planes, each a line of rows
-  pub cols_lines : {src dst : List ℕ} → length src ≡ f.planes * h * (v * f.lanes) → length dst ≡ after → ResizeLines kind src dst f.planes h u (v * f.lanes)
-  cols_lines n m =
-      record {
-        some = r.formed.planes_low;
-        stride_low = mul-pos v_low r.formed.lanes_low;
-        len_low = omega (arith, r.s_sized.h_low);
-        len_high = omega (arith, r.s_sized.h_high);
-        makes = rw (eh, eu) r.high;
-        src_length = n ∙ mul_assoc f.planes h (v * f.lanes);
-        dst_length = m ∙ ea ∙ rw (ev, eu);
-      }
-
   -- the columns of what the rows made
   pub level_made : (mode : EdgeMode) {q : Rows} {mid last : List ℕ} → q ≡ rows_of w (f.planes * h) f.lanes v →
       mid ≡ passed (pass_of kind mode) (take before picture) q.lines w v q.stride →
@@ -140,52 +125,3 @@ module _ {f : Form} {kind : Resize} {picture scratch : List ℕ} {s t : LevelSiz
       ∙ ap (λ (l : List ℕ). passed (pass_of kind mode) l f.planes h u (v * f.lanes))
       (e ∙ ap (λ (p : Rows). passed (pass_of kind mode) (take before picture) p.lines w v p.stride) eq ∙ rows_same w_low v_low (f.planes * h) f.lanes (pass_of kind mode) (local kind mode) _)
       ∙ rw (eb, ew, eh, ev, eu) (form_passed f (pass_of kind mode) (local kind mode) s t r.s_sized (take (form_bytes f s.w s.h) picture))
-
--- a list of n bytes is its own first n
-pub whole : (n : ℕ) (l : List ℕ) → length l ≡ n → take n l ≡ l
-whole n l e = take_all n l (omega arith)
-
-module _ {f : Form} {picture scratch : List ℕ} {s : LevelSize} (b : LevelBuffers f picture scratch s) where
-  abbrev v : ℕ
-  v = half s.w
-
-  abbrev u : ℕ
-  u = half s.h
-
-  narrow : v ≤ s.w
-  narrow = omega (arith, b.sized.w_low)
-
-  low : u ≤ s.h
-  low = omega (arith, b.sized.h_low)
-
-  -- a level becomes its half, ..
-  pub halving : Levels f Halve picture scratch s (half_level s)
-  halving =
-      record {
-        formed = b.formed;
-        s_sized = b.sized;
-        t_sized = half_sized s b.sized;
-        wide = refl;
-        high = refl;
-        s_fits = omega (arith, b.picture_length);
-        t_fits = omega (arith, b.picture_length, form_grows f narrow low);
-        between_fits = omega (arith, b.scratch_length, form_grows f {u = s.h} {h = s.h} narrow (omega arith));
-        s_turned = omega (arith, b.scratch_length);
-        between_turned = omega (arith, b.picture_length, form_grows f {u = s.h} {h = s.h} narrow (omega arith));
-      }
-
-  -- .. and its half becomes the level
-  pub doubling : Levels f Double picture scratch (half_level s) s
-  doubling =
-      record {
-        formed = b.formed;
-        s_sized = half_sized s b.sized;
-        t_sized = b.sized;
-        wide = refl;
-        high = refl;
-        s_fits = omega (arith, b.picture_length, form_grows f narrow low);
-        t_fits = omega (arith, b.picture_length);
-        between_fits = omega (arith, b.scratch_length, form_grows f {v = s.w} {w = s.w} (omega arith) low);
-        s_turned = omega (arith, b.scratch_length, form_grows f narrow low);
-        between_turned = omega (arith, b.picture_length, form_grows f {v = s.w} {w = s.w} (omega arith) low);
-      }

@@ -1,5 +1,5 @@
 -- The rows go to the front of scratch and the columns back to the front of the picture; together they are the level's pass.
-use mathlib.Core.Path.{◌≡◌, sym, ◌∙◌}
+use mathlib.Core.Path.{◌≡◌, ◌∙◌}
 use mathlib.Core.List.{List}
 use Prim.Native.Nat.{ℕ, ◌*◌, ◌≤◌}
 use native.Mathlib.Nat.{mul-le-mul}
@@ -8,7 +8,7 @@ use lib.ListN.{length}
 use lib.Seq.{length-take-le, take_at}
 use Rattle.picture.proofs.Sizes.{room_is}
 use Rattle.passes.specs.declared.Form.{Form}
-use Rattle.decimate.proofs.Levels.{between_fits, rows_room, cols_lines, level_made}
+use Rattle.decimate.proofs.Levels.{rows_room, level_made}
 use Rattle.decimate.proofs.resize_form.Goals as goal
 use Rattle.decimate.proofs.resize_form.Goals.{After-form_bytes-after}
 
@@ -45,15 +45,9 @@ module _ (m : After-form_bytes-after) where
   after_fits : m.form_bytes-after.result ≤ length m.args.picture.now
   after_fits = omega (arith, m.form_bytes-after.ensures, m.requires.t_fits)
 
-  scratch_fits : lines * stride ≤ length m.args.scratch.now
-  scratch_fits = between_fits m.requires w-is h-is v-is u-is m.form_bytes-before.ensures m.form_bytes-after.ensures
-
 -- the rows leave either buffer as long as it was
 after_stays : (m : After-form_bytes-after) (picture : List ℕ) → length picture ≡ length m.args.picture.now → m.form_bytes-after.result ≤ length picture
 after_stays m picture same = omega (arith, after_fits m, same)
-
-between_stays : (m : After-form_bytes-after) (scratch : List ℕ) → length scratch ≡ length m.args.scratch.now → lines m * stride m ≤ length scratch
-between_stays m scratch same = omega (arith, scratch_fits m, same)
 
 pub overflow_mul-lines : goal.overflow_mul-lines
 overflow_mul-lines c = omega (arith, lines_fit (goal.at.overflow_mul-lines c).After-form_bytes-after)
@@ -61,34 +55,10 @@ overflow_mul-lines c = omega (arith, lines_fit (goal.at.overflow_mul-lines c).Af
 pub overflow_mul-stride : goal.overflow_mul-stride
 overflow_mul-stride c = omega (arith, stride_fits (goal.at.overflow_mul-stride c).After-form_bytes-after)
 
-pub overflow_mul-between : goal.overflow_mul-between
-overflow_mul-between c = omega (arith, scratch_fits (goal.at.overflow_mul-between c).After-form_bytes-after, c.type_inv.scratch)
-
-pub rows_of-rows-requires : goal.rows_of-rows-requires
-rows_of-rows-requires c =
-    let m = (goal.at.rows_of-rows-requires c).After-form_bytes-after in
-    let p = c.requires in
-    (omega (arith, w-is m, p.s_sized.w_high), omega (arith, lines_fit m, room_is), p.formed.lanes_high, omega (arith, v-is m, p.t_sized.w_high))
-
 pub resize_rows-requires : goal.resize_rows-requires
 resize_rows-requires c =
     let m = (goal.at.resize_rows-requires c).After-form_bytes-after in
     rows_room c.requires (w-is m) (h-is m) (v-is m) (u-is m) c.form_bytes-before.ensures c.form_bytes-after.ensures c.rows_of-rows.ensures
-
-pub slice_bounds-resize_lines-end : goal.slice_bounds-resize_lines-end
-slice_bounds-resize_lines-end c = between_stays (goal.at.slice_bounds-resize_lines-end c).After-form_bytes-after _ c.resize_rows.auto.scratch
-
-pub slice_bounds-resize_lines-end-2 : goal.slice_bounds-resize_lines-end-2
-slice_bounds-resize_lines-end-2 c = sym (length-take-le _ _ (between_stays (goal.at.slice_bounds-resize_lines-end-2 c).After-form_bytes-after _ c.resize_rows.auto.scratch))
-
-pub slice_bounds-resize_lines-end-4 : goal.slice_bounds-resize_lines-end-4
-slice_bounds-resize_lines-end-4 c = sym (length-take-le _ _ (after_stays (goal.at.slice_bounds-resize_lines-end-4 c).After-form_bytes-after _ c.resize_rows.auto.picture))
-
-pub resize_lines-requires : goal.resize_lines-requires
-resize_lines-requires c =
-    let m = (goal.at.resize_lines-requires c).After-form_bytes-after in
-    cols_lines c.requires (w-is m) (h-is m) (v-is m) (u-is m) c.form_bytes-before.ensures c.form_bytes-after.ensures
-    (length-take-le _ _ (between_stays m _ c.resize_rows.auto.scratch)) (length-take-le _ _ (after_stays m _ c.resize_rows.auto.picture))
 
 pub returns : goal.returns
 returns c =

@@ -1,7 +1,6 @@
 -- Each way is the definition's.
 use native.Mathlib.Nat.{mul-le-mul}
 use native.Mathlib.Omega.{arith}
-use borrow.Author.Tests.{eq-eqb, ne_eqb}
 use Rattle.picture.proofs.Sizes.{room_is}
 use Rattle.decimate.proofs.rows_of.Goals as goal
 
@@ -11,9 +10,3 @@ overflow_add-w c = omega (arith, room_is)
 pub overflow_mul-result : goal.overflow_mul-result
 overflow_mul-result c =
     omega (arith, mul-le-mul {n₁ = c.args.lines} {m₁ = c.args.lanes} {n₂ = 262144} {m₂ = 4} (omega (arith, c.requires.1, room_is)) c.requires.2)
-
-pub returns-then-w-v-eq2 : goal.returns-then-w-v-eq2
-returns-then-w-v-eq2 c = rw (eq-eqb _ _ c.if-w-v-eq2.true)
-
-pub returns : goal.returns
-returns c = rw (ne_eqb _ _ c.if-w-v-eq2.false)

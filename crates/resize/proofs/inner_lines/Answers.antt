@@ -47,18 +47,3 @@ pub returns : goal.returns
 returns c =
     let all : c.loop-y.y ≡ c.args.lines = omega (arith, c.loop-y-test.false) in
     rw all at c.loop-y.invariant
-
-pub overflow_mul-read : goal.overflow_mul-read
-overflow_mul-read c = let s = (goal.at.overflow_mul-read c).Start in omega (arith, reads s 0 c.requires.some)
-
-pub overflow_mul-made : goal.overflow_mul-made
-overflow_mul-made c = let s = (goal.at.overflow_mul-made c).Start in omega (arith, writes s 0 c.requires.some)
-
-pub loop-y-init : goal.loop-y-init
-loop-y-init c = λ mode. parts_none
-
-pub overflow_mul-y : goal.overflow_mul-y
-overflow_mul-y c = omega (arith, reads (goal.at.overflow_mul-y c).Start c.loop-y.y c.loop-y-test.true)
-
-pub overflow_mul-y-in-loop-y : goal.overflow_mul-y-in-loop-y
-overflow_mul-y-in-loop-y c = omega (arith, writes (goal.at.overflow_mul-y-in-loop-y c).Start c.loop-y.y c.loop-y-test.true)

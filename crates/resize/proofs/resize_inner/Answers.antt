@@ -9,14 +9,6 @@ use Rattle.resize.specs.Resize.{inner_to}
 use Rattle.resize.proofs.Outputs.{room_less}
 use Rattle.resize.proofs.resize_inner.Goals as goal
 
--- ---- halved
-pub loop-x-init : goal.loop-x-init
-loop-x-init c = λ mode. span_none (omega arith)
-
-pub halve_inside-requires : goal.halve_inside-requires
-halve_inside-requires c =
-    (omega arith, omega arith, room_less (c.loop-x.x + 1) (rw c.in-Halve.is at c.requires) c.loop-x.auto.dst (omega arith))
-
 pub loop-x-preserved : goal.loop-x-preserved
 loop-x-preserved c =
     let stride = c.args.stride in
@@ -28,14 +20,6 @@ pub returns-after-loop-x : goal.returns-after-loop-x
 returns-after-loop-x c =
     let e : c.loop-x.x ≡ inner_to Halve c.args.len = omega arith in
     simp c.in-Halve.is (rw e at c.loop-x.invariant)
-
--- ---- doubled
-pub loop-y-init : goal.loop-y-init
-loop-y-init c = λ mode. span_none (omega arith)
-
-pub double_inside-requires : goal.double_inside-requires
-double_inside-requires c =
-    (omega arith, room_less (2 * c.loop-y.y + 3) (rw c.in-Double.is at c.requires) c.loop-y.auto.dst (omega arith))
 
 pub loop-y-preserved : goal.loop-y-preserved
 loop-y-preserved c =
