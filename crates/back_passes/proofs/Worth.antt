@@ -95,8 +95,3 @@ pub worth_most : (row : List ℕ) (l : Line) (k : ℕ) → ((j : ℕ) → l j �
 unfolding worth_of total
 worth_most row l k h =
     omega (arith, sum_same (λ i. get_or row i 0 * l i) (λ i. l i * get_or row i 0) (length row) (λ i _. mul_comm (get_or row i 0) (l i)), sum_most l (λ i. get_or row i 0) k h (length row), ap (λ (a : ℕ). k * a) (sum_same (λ i. get_or row i 0 * 1) (λ i. get_or row i 0) (length row) (λ i _. mul-one (get_or row i 0))))
-
--- all that a row holds after it gained
-pub gained_total : (old new : List ℕ) (f : Line → ℕ) → Gained old new f → total new ≡ total old + f (λ _. 1)
-unfolding total
-gained_total old new f h = h (λ _. 1)

@@ -27,9 +27,6 @@ carry_taps-requires c =
     let s = (goal.at.carry_taps-requires c).Start in
     taps_ready (ready s c.in-Halve.is) (2 * c.args.x) 1 (1 ∷ 3 ∷ 3 ∷ 1 ∷ []) (omega arith) (omega arith) (omega arith) (omega arith)
 
-pub double_output-requires : goal.double_output-requires
-double_output-requires c = ready (goal.at.double_output-requires c).Start c.in-Double.is
-
 pub carry_taps-requires-in-Convolve : goal.carry_taps-requires-in-Convolve
 carry_taps-requires-in-Convolve c =
     let s = (goal.at.carry_taps-requires-in-Convolve c).Start in
@@ -53,10 +50,6 @@ returns-in-Halve c =
     as-kind s c.carry_taps.new.row c.in-Halve.is
     (gained_as a.row.now c.carry_taps.new.row a.v (λ l. tap_sum a.mode (1 ∷ 3 ∷ 3 ∷ 1 ∷ []) m l (2 * a.x) 1) (λ l. exact_halve a.mode m l a.x)
     (λ l. halve_taps a.mode m c.requires.sized.low l a.x) c.carry_taps.ensures)
-
-pub returns-in-Double : goal.returns-in-Double
-returns-in-Double c =
-    as-kind (goal.at.returns-in-Double c).Start c.double_output.new.row c.in-Double.is c.double_output.ensures
 
 pub returns-in-Convolve : goal.returns-in-Convolve
 returns-in-Convolve c =

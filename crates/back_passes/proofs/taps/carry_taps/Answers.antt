@@ -1,4 +1,4 @@
-use mathlib.Core.Path.{◌≡◌, refl, ◌∙◌, subst}
+use mathlib.Core.Path.{◌≡◌, subst}
 use Prim.Native.Nat.{ℕ, ◌+◌, ◌*◌, ◌≤◌}
 use native.Mathlib.Omega.{arith}
 use lib.ListN.{length, get_or}
@@ -23,9 +23,6 @@ room c =
     let l = c.loop-j in
     let a = c.args in
     taps_room a.mode (length a.row.now) a.taps.now a.c a.d a.v a.row.now l.row l.j (omega arith) l.invariant
-
-pub overflow_add-c : goal.overflow_add-c
-overflow_add-c c = omega (arith, c.requires.far)
 
 pub overflow_mul-v : goal.overflow_mul-v
 overflow_mul-v c =
