@@ -6,7 +6,7 @@ use lib.ListN.{length}
 use Rattle.picture.specs.Planes.{cleared}
 use Rattle.picture.specs.Sizes.{full_bytes}
 use Rattle.picture.specs.Modes.{mode_of}
-use Rattle.picture.specs.Refusal.{Check, first_of}
+use Rattle.picture.specs.Refusal.{Check, number_of, first_of}
 use Rattle.picture.specs.Answer.{Answer, answered, Lent, LentCopy, lent_copy, settled}
 use Rattle.picture.specs.declared.FullSize.{FullSize}
 use Rattle.picture.proofs.Planes.{length_painted}
@@ -31,10 +31,10 @@ abbrev pub Converts : (ℕ → ℕ → List ℕ → List ℕ) → Conversion →
 Converts form k = answered k.number k.made ≡ converted_outcome form k.src k.size.w k.size.h k.room
 
 pub each_to : (P : Conversion → Type 0) → ((k : Conversion) → Converts planar k → P k) → EachTo P
-each_to P f = (λ κs a v x. f (converted κs a v x), λ κs a v x. f (converted κs a v x))
+each_to P f = (λ κs a v x. f (converted κs a (number_of v) x), λ κs a v x. f (converted κs a v x))
 
 pub each_from : (P : Conversion → Type 0) → ((k : Conversion) → Converts interleaved k → P k) → EachFrom P
-each_from P f = (λ κs a v x. f (converted κs a v x), λ κs a v x. f (converted κs a v x))
+each_from P f = (λ κs a v x. f (converted κs a (number_of v) x), λ κs a v x. f (converted κs a v x))
 
 -- ---- working: an operation's checks, what it makes of a picture, and what it leaves of its work buffers
 abbrev pub checks : (o : Operation) → Given o → FullSize → ℕ → ℕ → ℕ → List Check
@@ -95,12 +95,12 @@ picture_only p = lent_copy p [] []
 
 pub each_on_planes : (o : Operation) (P : Work o → Type 0) → ((k : Work o) → Works o on_planes k → P k) → OnPlanes o P
 unfolding blur_planes_outcome shift_planes_outcome shadow_planes_outcome
-each_on_planes blur P f = (λ κs a v x e. f (blurred κs a v x) (beside no_copy _ _ _ e), λ κs a v x e. f (blurred κs a v x) (beside no_copy _ _ _ e))
-each_on_planes shift P f = (λ κs a v x e. f (shifted κs a v x) (beside picture_only _ _ _ e), λ κs a v x e. f (shifted κs a v x) (beside picture_only _ _ _ e))
-each_on_planes shadow P f = (λ κs a v x. f (shadowed κs a v x), λ κs a v x. f (shadowed_from_c κs a v x))
+each_on_planes blur P f = (λ κs a v x e. f (blurred κs a (number_of v) x) (beside no_copy _ _ _ e), λ κs a v x e. f (blurred κs a v x) (beside no_copy _ _ _ e))
+each_on_planes shift P f = (λ κs a v x e. f (shifted κs a (number_of v) x) (beside picture_only _ _ _ e), λ κs a v x e. f (shifted κs a v x) (beside picture_only _ _ _ e))
+each_on_planes shadow P f = (λ κs a v x. f (shadowed κs a (number_of v) x), λ κs a v x. f (shadowed_from_c κs a v x))
 
 pub each_on_picture : (o : Operation) (P : Work o → Type 0) → ((k : Work o) → Works o on_picture k → P k) → OnPicture o P
 unfolding blur_outcome shift_outcome shadow_outcome
-each_on_picture blur P f = (λ κs a v x e. f (blurred κs a v x) (beside no_copy _ _ _ e), λ κs a v x e. f (blurred κs a v x) (beside no_copy _ _ _ e))
-each_on_picture shift P f = (λ κs a v x e. f (shifted κs a v x) (beside picture_only _ _ _ e), λ κs a v x e. f (shifted κs a v x) (beside picture_only _ _ _ e))
-each_on_picture shadow P f = (λ κs a v x. f (shadowed κs a v x), λ κs a v x. f (shadowed_from_c κs a v x))
+each_on_picture blur P f = (λ κs a v x e. f (blurred κs a (number_of v) x) (beside no_copy _ _ _ e), λ κs a v x e. f (blurred κs a v x) (beside no_copy _ _ _ e))
+each_on_picture shift P f = (λ κs a v x e. f (shifted κs a (number_of v) x) (beside picture_only _ _ _ e), λ κs a v x e. f (shifted κs a v x) (beside picture_only _ _ _ e))
+each_on_picture shadow P f = (λ κs a v x. f (shadowed κs a (number_of v) x), λ κs a v x. f (shadowed_from_c κs a v x))

@@ -4,6 +4,7 @@ use contract.Lifetimes.{Lfts}
 use borrow.Fn.Kinds.{ParamKind, ResultKind, Out, Dens, res_t, ended_of}
 use denote.Triple.Clauses.{AtExit}
 use Rattle.picture.specs.Sizes.{full_size}
+use Rattle.picture.specs.Refusal.{number_of}
 use Rattle.picture.specs.Answer.{LentCopy, lent_copy}
 use Rattle.picture.specs.declared.FullSize.{FullSize}
 use Rattle.drop_shadow.specs.declared.Recipe.{Recipe}
@@ -21,18 +22,21 @@ use Rattle.drop_shadow.proofs.shadow.Reads as shadow-picture
 use Rattle.drop_shadow.proofs.shadow.Kinds as shadowing
 use Rattle.plane_shadow.proofs.shadow_planes.Reads as shadow-planes
 use Rattle.face_planes.proofs.corbelrush_to_planes.Reads as to-c
+use Rattle.face_planes.proofs.corbelrush_to_planes.Kinds as converting-c
 use Rattle.face_planes.proofs.corbelrush_from_planes.Reads as from_c
 use Rattle.face_filters.proofs.filters.corbelrush_blur.Reads as blur-picture-c
+use Rattle.face_filters.proofs.filters.corbelrush_blur.Kinds as blurring-c
 use Rattle.face_planes.proofs.corbelrush_blur_planes.Reads as blur-planes-c
 use Rattle.face_filters.proofs.filters.corbelrush_shift.Reads as shift-picture-c
+use Rattle.face_filters.proofs.filters.corbelrush_shift.Kinds as shifting-c
 use Rattle.face_planes.proofs.corbelrush_shift_planes.Reads as shift-planes-c
 use Rattle.face_filters.proofs.filters.corbelrush_shadow.Reads as shadow-picture-c
 use Rattle.face_filters.proofs.filters.corbelrush_shadow.Kinds as shadowing-c
 use Rattle.face_planes.proofs.corbelrush_shadow_planes.Reads as shadow-planes-c
 
--- of every call that a contract allows; `call` makes it of the arguments, the number and what is left
-abbrev pub EachCall : {n : ℕ} (ps : List (ParamKind n)) (r : ResultKind n) {K : Type 0} → Out n ps r → ((κs : Lfts n) → Dens κs ps → (res_t r κs).Denot → AtExit (ended_of n ps r) κs → K) → (K → Type 0) → Type 0
-EachCall {n} ps r Post call P = (κs : Lfts n) (a : Dens κs ps) (v : (res_t r κs).Denot) (x : AtExit (ended_of n ps r) κs) → Post κs a v x → P (call κs a v x)
+-- of every call that a contract allows; `call` makes it of the arguments, the answer's number and what is left
+abbrev pub EachCall : {n : ℕ} (ps : List (ParamKind n)) (r : ResultKind n) {K : Type 0} → Out n ps r → ((κs : Lfts n) → (res_t r κs).Denot → ℕ) → ((κs : Lfts n) → Dens κs ps → ℕ → AtExit (ended_of n ps r) κs → K) → (K → Type 0) → Type 0
+EachCall {n} ps r Post number call P = (κs : Lfts n) (a : Dens κs ps) (v : (res_t r κs).Denot) (x : AtExit (ended_of n ps r) κs) → Post κs a v x → P (call κs a (number κs v) x)
 
 -- ---- converting, either way
 -- what is read, of this size, and the room for the other form before and after
@@ -48,10 +52,10 @@ converted κs a r x = record { size = full_size a.1.0 a.1.1.0; src = a.0.now; ro
 
 -- of every call to planes, and of every call from them: from Rattle, and from C
 abbrev pub EachTo : (Conversion → Type 0) → Type 0
-EachTo P = EachCall converting.ps converting.r to.Post converted P × EachCall converting.ps converting.r to-c.Post converted P
+EachTo P = EachCall converting.ps converting.r to.Post (λ κs v. number_of v) converted P × EachCall converting-c.ps converting-c.r to-c.Post (λ κs v. v) converted P
 
 abbrev pub EachFrom : (Conversion → Type 0) → Type 0
-EachFrom P = EachCall converting.ps converting.r from.Post converted P × EachCall converting.ps converting.r from_c.Post converted P
+EachFrom P = EachCall converting.ps converting.r from.Post (λ κs v. number_of v) converted P × EachCall converting-c.ps converting-c.r from_c.Post (λ κs v. v) converted P
 
 -- ---- working
 pub data Operation : Type 0 where
@@ -121,11 +125,11 @@ shadowed_from_c κs a r x =
 
 -- of every call of an operation on planes, and of every one on a picture: from Rattle, and from C
 abbrev pub OnPlanes : (o : Operation) → (Work o → Type 0) → Type 0
-OnPlanes blur P = EachCall blurring.ps blurring.r blur-planes.Post blurred P × EachCall blurring.ps blurring.r blur-planes-c.Post blurred P
-OnPlanes shift P = EachCall shifting.ps shifting.r shift-planes.Post shifted P × EachCall shifting.ps shifting.r shift-planes-c.Post shifted P
-OnPlanes shadow P = EachCall shadowing.ps shadowing.r shadow-planes.Post shadowed P × EachCall shadowing-c.ps shadowing-c.r shadow-planes-c.Post shadowed_from_c P
+OnPlanes blur P = EachCall blurring.ps blurring.r blur-planes.Post (λ κs v. number_of v) blurred P × EachCall blurring-c.ps blurring-c.r blur-planes-c.Post (λ κs v. v) blurred P
+OnPlanes shift P = EachCall shifting.ps shifting.r shift-planes.Post (λ κs v. number_of v) shifted P × EachCall shifting-c.ps shifting-c.r shift-planes-c.Post (λ κs v. v) shifted P
+OnPlanes shadow P = EachCall shadowing.ps shadowing.r shadow-planes.Post (λ κs v. number_of v) shadowed P × EachCall shadowing-c.ps shadowing-c.r shadow-planes-c.Post (λ κs v. v) shadowed_from_c P
 
 abbrev pub OnPicture : (o : Operation) → (Work o → Type 0) → Type 0
-OnPicture blur P = EachCall blurring.ps blurring.r blur-picture.Post blurred P × EachCall blurring.ps blurring.r blur-picture-c.Post blurred P
-OnPicture shift P = EachCall shifting.ps shifting.r shift-picture.Post shifted P × EachCall shifting.ps shifting.r shift-picture-c.Post shifted P
-OnPicture shadow P = EachCall shadowing.ps shadowing.r shadow-picture.Post shadowed P × EachCall shadowing-c.ps shadowing-c.r shadow-picture-c.Post shadowed_from_c P
+OnPicture blur P = EachCall blurring.ps blurring.r blur-picture.Post (λ κs v. number_of v) blurred P × EachCall blurring-c.ps blurring-c.r blur-picture-c.Post (λ κs v. v) blurred P
+OnPicture shift P = EachCall shifting.ps shifting.r shift-picture.Post (λ κs v. number_of v) shifted P × EachCall shifting-c.ps shifting-c.r shift-picture-c.Post (λ κs v. v) shifted P
+OnPicture shadow P = EachCall shadowing.ps shadowing.r shadow-picture.Post (λ κs v. number_of v) shadowed P × EachCall shadowing-c.ps shadowing-c.r shadow-picture-c.Post (λ κs v. v) shadowed_from_c P
