@@ -5,14 +5,14 @@ ghost use Rattle.area_boxes.specs.Outcome.{box_outcome};
 ghost use Rattle.area_updates.specs.Outcome.{update_outcome};
 ghost use Rattle.area.specs.Outcome.{build_outcome};
 
-use area_boxes::boxes::Boxed;
+use area_boxes::boxes::PixelBox;
 
 // Builds the table of a picture of w by h pixels, as `build` does.
 #[unsafe(no_mangle)]
 pub extern "C" fn corbelrush_area_build(picture: &[u8], w: u32, h: u32, table: &mut [u32]) -> u32
     ensures { answered result table.new ≡ build_outcome picture.now w h table.old }
 {
-    area::builder::build(picture, w, h, table)
+    picture::number_of(area::builder::build(picture, w, h, table))
 }
 
 // The sum of a box, as `box_sum` answers it; it goes through the pointer.
@@ -30,9 +30,9 @@ pub extern "C" fn corbelrush_area_box(
     ensures { answered result sum.new ≡ box_outcome table.now w h x y wide high }
 {
     *sum = 0;
-    match area_boxes::boxes::box_sum(table, w, h, x, y, wide, high) {
-        Boxed::Refused(r) => r.number(),
-        Boxed::Sum(s) => {
+    match area_boxes::boxes::box_sum(table, w, h, PixelBox { x, y, wide, high }) {
+        Err(refusal) => refusal.number(),
+        Ok(s) => {
             *sum = s.alphas as u64;
             0
         }
@@ -51,5 +51,5 @@ pub extern "C" fn corbelrush_area_update(
 ) -> u32
     ensures { answered result table.new ≡ update_outcome table.old w h place old new }
 {
-    area_updates::updater::update(table, w, h, place, old, new)
+    picture::number_of(area_updates::updater::update(table, w, h, place, old, new))
 }

@@ -7,9 +7,6 @@ ghost use Rattle.grading.specs.Sampling.{view_refusal, sampled};
 ghost use Rattle.spread.specs.Spread.{reported};
 ghost use Rattle.face_grades.specs.Words.{reworded, pointers, finding_in};
 
-use grading::premultiplied::Checked;
-use spread::Reported;
-
 // The first pixel of which a channel exceeds alpha: whether there is one, and its place.
 #[unsafe(no_mangle)]
 pub extern "C" fn corbelrush_check(
@@ -24,9 +21,9 @@ pub extern "C" fn corbelrush_check(
     *found = 0;
     *place = 0;
     match grading::premultiplied::check(picture, w, h) {
-        Checked::Refused(r) => r.number(),
-        Checked::Fits => 0,
-        Checked::Exceeds(p) => {
+        Err(refusal) => refusal.number(),
+        Ok(None) => 0,
+        Ok(Some(p)) => {
             *found = 1;
             *place = p.at as u64;
             0
@@ -39,7 +36,7 @@ pub extern "C" fn corbelrush_check(
 pub extern "C" fn corbelrush_view(picture: &[u8], w: u32, h: u32, edge: u32) -> u32
     ensures { result ≡ view_refusal picture.now w h edge }
 {
-    grading::sampling::view_refusal(picture, w, h, edge)
+    picture::number_of(grading::sampling::check_view(picture, w, h, edge))
 }
 
 // The pixel at x, y of a view, in one word.
@@ -64,8 +61,8 @@ pub extern "C" fn corbelrush_spread(weights: &[f32], n: u32, spread: &mut u64) -
 {
     *spread = 0;
     match spread::report(weights, n) {
-        Reported::Refused(r) => r.number(),
-        Reported::Found(s) => {
+        Err(refusal) => refusal.number(),
+        Ok(s) => {
             *spread = s.units;
             0
         }

@@ -4,8 +4,6 @@ ghost use Rattle.picture.specs.Answer.{answered};
 ghost use Rattle.rebuilding.specs.Outcome.{rebuild_outcome};
 ghost use Rattle.mending.specs.Outcome.{mend_left, mend_outcome};
 
-use mending::mender::Mended;
-
 // Mends a picture of w by h pixels, as `mend` does: the count goes through the pointer.
 #[unsafe(no_mangle)]
 pub extern "C" fn corbelrush_mend(
@@ -19,8 +17,8 @@ pub extern "C" fn corbelrush_mend(
 {
     *count = 0;
     match mending::mender::mend(picture, w, h, list) {
-        Mended::Refused(r) => r.number(),
-        Mended::Count(n) => {
+        Err(refusal) => refusal.number(),
+        Ok(n) => {
             *count = n as u64;
             0
         }
@@ -32,5 +30,5 @@ pub extern "C" fn corbelrush_mend(
 pub extern "C" fn corbelrush_rebuild(picture: &mut [u8], w: u32, h: u32, list: &[[u32; 2]]) -> u32
     ensures { answered result picture.new ≡ rebuild_outcome picture.old w h list.now }
 {
-    rebuilding::rebuilder::rebuild(picture, w, h, list)
+    picture::number_of(rebuilding::rebuilder::rebuild(picture, w, h, list))
 }

@@ -4,9 +4,6 @@ ghost use Rattle.picture.specs.Answer.{answered};
 ghost use Rattle.shares.specs.Outcome.{share_outcome};
 ghost use Rattle.share_lists.specs.Listing.{points_left, list_outcome};
 
-use share_lists::listing::Listed;
-use shares::single::Shared;
-
 // The share of an input place in an output place, as `share` answers it: it goes through the pointer.
 #[unsafe(no_mangle)]
 pub extern "C" fn corbelrush_share(
@@ -23,8 +20,8 @@ pub extern "C" fn corbelrush_share(
 {
     *share = 0;
     match shares::single::share(w, h, numerators, n, edge, out_place, in_place) {
-        Shared::Refused(r) => r.number(),
-        Shared::Share(s) => {
+        Err(refusal) => refusal.number(),
+        Ok(s) => {
             *share = s;
             0
         }
@@ -47,9 +44,8 @@ pub extern "C" fn corbelrush_shares(
 {
     *points = 0;
     match share_lists::listing::list(w, h, numerators, n, edge, out_place, list) {
-        Listed::Refused(r) => r.number(),
-        Listed::Full => picture::LIST_FULL,
-        Listed::Count(k) => {
+        Err(refusal) => refusal.number(),
+        Ok(k) => {
             *points = k as u64;
             0
         }

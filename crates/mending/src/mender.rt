@@ -73,7 +73,7 @@ fn mend_whole(picture: &mut [u8], size: FullSize, list: &mut [[u32; 2]]) -> Resu
 }
 
 // Lowers each r, g or b above its alpha to that alpha, lists the place and the old pixel of each pixel changed, and answers how many those are. It gives refusals 1, 2 and 17.
-#[tactic(auto, unfolding(picture::specs::Refusal::number_of, picture::specs::Refusal::first_of, picture::specs::Refusal::first_else, picture::specs::Answer::settled, crate::specs::Outcome::mend_outcome), using(grading::proofs::Refused::number_some, picture::proofs::Sizes::whole))]
+#[tactic(auto, unfolding(picture::specs::Refusal::number_of, picture::specs::Refusal::first_of, picture::specs::Refusal::first_else, picture::specs::Answer::settled, crate::specs::Outcome::mend_outcome), using(picture::proofs::Refused::number_some, picture::proofs::Sizes::whole))]
 pub fn mend(picture: &mut [u8], w: u32, h: u32, list: &mut [[u32; 2]]) -> Result<usize, Refusal>
     ensures { mend_answer result picture.new list.new ≡ mend_outcome picture.old w h list.old }
 {

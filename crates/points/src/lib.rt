@@ -15,6 +15,7 @@ pub fn nonzeros(row: &[u32]) -> usize
 {
     let mut count = 0;
     let mut i = next_nonzero(row, 0);
+    // It stays a while: a step goes to the next element that is not 0.
     while i < row.len() {
         count += 1;
         i = next_nonzero(row, i + 1);
@@ -26,14 +27,13 @@ pub fn nonzeros(row: &[u32]) -> usize
 pub fn end_nonzero(row: &[u32]) -> usize
     ensures { EndNonzero row.now result }
 {
-    let mut i = row.len();
-    while 0 < i {
-        if row[i - 1] != 0 {
-            return i;
+    let mut end = 0;
+    for (i, x) in row.iter().enumerate() {
+        if *x != 0 {
+            end = i + 1;
         }
-        i -= 1;
     }
-    i
+    end
 }
 
 // An entry: the place, and the product of its two shares.
@@ -60,6 +60,7 @@ fn write_row(
     let v = ys[y];
     let mut k = k;
     let mut x = from;
+    // It stays a while: a step goes to the next column that is not 0.
     while x < xs.len() {
         let place = y * w + x;
         list[k] = entry_at(place, xs[x], v);
@@ -77,6 +78,7 @@ pub fn write_rows(xs: &[u32], w: usize, ys: &[u32], list: &mut [[u64; 2]])
     let from = next_nonzero(xs, 0);
     let mut k = 0;
     let mut y = next_nonzero(ys, 0);
+    // It stays a while: a step goes to the next row that is not 0.
     while y < ys.len() {
         k = write_row(xs, w, ys, y, from, list, k);
         y = next_nonzero(ys, y + 1);

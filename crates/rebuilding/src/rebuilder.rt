@@ -36,7 +36,7 @@ fn put_back(picture: &mut [u8], list: &[[u32; 2]], area: usize)
 }
 
 // Puts the old pixels of a list of changes back into a mended picture. It gives refusals 1, 2 and 18, each before a pixel is put back.
-#[tactic(auto, unfolding(picture::specs::Refusal::number_of, picture::specs::Refusal::number, picture::specs::Refusal::first_of, picture::specs::Refusal::first_else, picture::specs::Answer::settled, crate::specs::Outcome::rebuild_outcome), using(grading::proofs::Refused::number_some, picture::proofs::Conditions::right_length, crate::proofs::Rising::right_rises))]
+#[tactic(auto, unfolding(picture::specs::Refusal::number_of, picture::specs::Refusal::number, picture::specs::Refusal::first_of, picture::specs::Refusal::first_else, picture::specs::Answer::settled, crate::specs::Outcome::rebuild_outcome), using(picture::proofs::Refused::number_some, picture::proofs::Conditions::right_length, crate::proofs::Rising::right_rises))]
 pub fn rebuild(picture: &mut [u8], w: u32, h: u32, list: &[[u32; 2]]) -> Result<(), Refusal>
     ensures { answered (number_of result) picture.new ≡ rebuild_outcome picture.old w h list.now }
 {

@@ -1,44 +1,21 @@
--- What the checks of shares say where none refuses, and where one does.
-use mathlib.Core.Path.{◌≡◌, refl, ◌∙◌, ap, sym, subst}
-use mathlib.Core.Bool.{Bool, true, false, cond}
-use mathlib.Core.List.{List, [], ◌∷◌, ◌++◌}
+-- What the checks of shares say where none refuses.
+use mathlib.Core.Path.{◌≡◌, sym, subst}
+use mathlib.Core.Bool.{Bool, false}
+use mathlib.Core.List.{List, ◌++◌}
 use Prim.Native.Nat.{ℕ, ◌*◌, ◌/◌, ◌%◌, ◌≤◌, ◌<◌}
 use native.Mathlib.Nat.{mul_comm, mod-lt, div-lt_iff_lt-mul}
 use native.Mathlib.Omega.{arith}
 use borrow.Author.Tests.{ltb-false, leb-false}
-use lib.Dec.{lit<, eqb}
+use lib.Dec.{lit<}
 use lib.ListN.{length, replicate, length-replicate}
 use Rattle.picture.specs.Sizes.{max_side}
 use Rattle.picture.specs.Refusal.{Check, first_else, first_of, max_taps, wrong_sides}
-use Rattle.picture.specs.Answer.{answered, settled}
 use Rattle.picture.proofs.Conditions.{each_passes, right_sides, right_taps}
 use Rattle.picture.proofs.Sizes.{full_sized}
-use Rattle.picture.proofs.Answers.{refused}
 use Rattle.grid_sums.specs.Sums.{heavy}
 use Rattle.backwards.proofs.Lines.{blank_replicate}
-use Rattle.share_checks.specs.Checks.{max_share_depth, too_deep_to_share, place_outside, share_checks, share_number}
+use Rattle.share_checks.specs.Checks.{max_share_depth, too_deep_to_share, place_outside, share_checks}
 use Rattle.share_checks.specs.Needs.{AxisAsked, RowReady, ShareAsked}
-use Rattle.share_checks.specs.declared.checks.ShareRefusal.{ShareRefusal}
-use Rattle.share_checks.specs.declared.checks.ShareRefusal.TheVariants.{WrongSides, WrongTaps, WrongEdge, TooDeep, Outside, WrongSum}
-
--- no refusal has the number 0
-pub number_some : (r : ShareRefusal) → share_number r ≡ 0 → ⊥
-number_some WrongSides e = omega arith
-number_some WrongTaps e = omega arith
-number_some WrongEdge e = omega arith
-number_some TooDeep e = omega arith
-number_some Outside e = omega arith
-number_some WrongSum e = omega arith
-
--- a refusal can be read back from its number
-abbrev pub refusal_back : ℕ → ShareRefusal
-refusal_back k =
-    cond (eqb k 1) WrongSides (cond (eqb k 4) WrongTaps (cond (eqb k 9) WrongEdge (cond (eqb k 21) TooDeep (cond (eqb k 22) Outside WrongSum))))
-
--- what a call that is refused answers and leaves
-pub refused_as : {A : Type 0} (r : ShareRefusal) (refusal : ℕ) (before after : A) → share_number r ≡ refusal → answered (share_number r) before ≡ settled refusal before after
-refused_as r refusal before after e =
-    ap (λ (k : ℕ). answered k before) e ∙ refused refusal before after (λ z. number_some r (e ∙ z))
 
 -- a row of zeros, as long as the longest side
 pub zero_row : (s : ℕ) → s ≤ max_side → RowReady s (replicate max_side 0)
@@ -51,16 +28,6 @@ module _ {w h n : ℕ} {ms : List ℕ} {out : ℕ} (a : ShareAsked w h n ms out)
 
   pub down_asked : AxisAsked h n ms (out / w)
   down_asked = record { inside = (div-lt_iff_lt-mul a.sides.w_low).1 (omega (arith, a.inside, mul_comm w h)); high = a.tall; shallow = a.shallow; kernel = a.kernel }
-
--- a refusal among the first checks is that of all
-pub first_refused : (ks ls : List Check) → (first_of ks ≡ 0 → ⊥) → first_of (ks ++ ls) ≡ first_of ks
-unfolding first_of first_else
-first_refused [] ls f = absurd (f refl)
-first_refused (k ∷ ks) ls f = by k.refuses refl (first_refused ks ls)
-  where
-    by : (b : Bool) → k.refuses ≡ b → ((first_of ks ≡ 0 → ⊥) → first_of (ks ++ ls) ≡ first_of ks) → first_of ((k ∷ ks) ++ ls) ≡ first_of (k ∷ ks)
-    by true e g = rw e
-    by false e g = rw e (g (λ z. f (rw e z)))
 
 -- a place that check 22 lets through
 pub inside : (w h place : ℕ) → place_outside w h place ≡ false → place < w * h

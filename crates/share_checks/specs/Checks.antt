@@ -2,10 +2,6 @@
 use Rattle.std.specs.Prelude.{Bool, List, [], ◌∷◌, ℕ, ◌*◌, ltb, leb, length}
 use Rattle.picture.specs.Refusal.{Check, check, wrong_sides, wrong_taps, wrong_edge}
 use Rattle.grid_sums.specs.Sums.{heavy}
-use Rattle.share_checks.specs.declared.checks.ShareRefusal.{ShareRefusal}
-use Rattle.share_checks.specs.declared.checks.ShareRefusal.TheVariants.{WrongSides, WrongTaps, WrongEdge, TooDeep, Outside, WrongSum}
-use Rattle.share_checks.specs.declared.checks.Checked.{Checked}
-use Rattle.share_checks.specs.declared.checks.Checked.TheVariants.{Refused, Passed}
 
 -- the most decimations that shares are worked out for
 unfoldable pub max_share_depth : ℕ
@@ -29,17 +25,3 @@ share_checks w h numerators n edge outside =
     ∷ check 22 outside
     ∷ check 14 (heavy numerators)
     ∷ []
-
--- the number of each refusal
-abbrev pub share_number : ShareRefusal → ℕ
-share_number WrongSides = 1
-share_number WrongTaps = 4
-share_number WrongEdge = 9
-share_number TooDeep = 21
-share_number Outside = 22
-share_number WrongSum = 14
-
--- what the checks come to; 0 where none refuses
-abbrev pub checked_number : Checked → ℕ
-checked_number (Refused r) = share_number r
-checked_number Passed = 0

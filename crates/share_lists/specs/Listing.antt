@@ -1,14 +1,13 @@
 -- What the entry `list` answers and leaves behind, for any input.
-use Rattle.std.specs.Prelude.{List, [], ◌∷◌, ◌++◌, ℕ, ◌*◌, ltb, length}
+use Rattle.std.specs.Prelude.{Result, Ok, Err, List, [], ◌∷◌, ◌++◌, ℕ, ◌*◌, ltb, length}
 use Rattle.picture.specs.Modes.{mode_of}
-use Rattle.picture.specs.Refusal.{Check, check, first_of}
+use Rattle.picture.specs.Refusal.{number, Check, check, first_of}
+use Rattle.picture.specs.declared.checks.Refusal.{Refusal}
 use Rattle.picture.specs.Answer.{Answer, answered, settled}
 use Rattle.mending.specs.Changes.{laid_entries}
 use Rattle.share_laws.specs.Share.{share_at}
 use Rattle.points.specs.Points.{points_below}
-use Rattle.share_checks.specs.Checks.{place_outside, share_checks, share_number}
-use Rattle.share_lists.specs.declared.listing.Listed.{Listed}
-use Rattle.share_lists.specs.declared.listing.Listed.TheVariants.{Refused, Full, Count}
+use Rattle.share_checks.specs.Checks.{place_outside, share_checks}
 
 -- what `list` leaves: the lent list, and the count that it answers
 pub record PointsLeft : Type 0 where
@@ -19,10 +18,9 @@ abbrev pub points_left : List (List ℕ) → ℕ → PointsLeft
 points_left list count = record { list = list; count = count }
 
 -- the number and the count of each case of the answer, with the list as it is left; a refused count is 0
-abbrev pub list_answer : Listed → List (List ℕ) → Answer PointsLeft
-list_answer (Refused r) list = answered (share_number r) (points_left list 0)
-list_answer Full list = answered 17 (points_left list 0)
-list_answer (Count n) list = answered 0 (points_left list n)
+abbrev pub list_answer : Result ℕ Refusal → List (List ℕ) → Answer PointsLeft
+list_answer (Err r) list = answered (number r) (points_left list 0)
+list_answer (Ok n) list = answered 0 (points_left list n)
 
 -- the points of one output
 abbrev pub points_of : ℕ → ℕ → List ℕ → ℕ → ℕ → ℕ → List (List ℕ)

@@ -8,20 +8,12 @@ ghost use Rattle.points.specs.Points.{points_below, product_at};
 ghost use Rattle.share_checks.specs.Needs.{RowReady, ShareAsked};
 ghost use Rattle.share_lists.specs.Listing.{points_left, list_answer, full_checks, list_done, list_outcome};
 
-use picture::{EdgeMode, FullSize};
+use picture::{EdgeMode, FullSize, Refusal};
 use share_checks::axes::fill_axis;
-use share_checks::checks::{Checked, ShareRefusal, check_share, place_outside};
-
-// What the entry answers: how many points it listed.
-#[derive(Clone, Copy)]
-pub enum Listed {
-    Refused(ShareRefusal),
-    Full,
-    Count(usize),
-}
+use share_checks::checks::{check_share, place_outside};
 
 // The points of two axes, where the list has room for them.
-fn list_axes(xs: &[u32], ys: &[u32], list: &mut [[u64; 2]]) -> Listed
+fn list_axes(xs: &[u32], ys: &[u32], list: &mut [[u64; 2]]) -> Result<usize, Refusal>
     requires fact_1 { 0 < length xs.now }
     requires fact_2 { length xs.now ≤ side_room }
     requires fact_3 { length ys.now ≤ side_room }
@@ -29,11 +21,11 @@ fn list_axes(xs: &[u32], ys: &[u32], list: &mut [[u64; 2]]) -> Listed
 {
     let count = points::nonzeros(xs) * points::nonzeros(ys);
     if list.len() < count {
-        return Listed::Full;
+        return Err(Refusal::ListFull);
     }
     let end = points::end_nonzero(xs);
     points::write_rows(&xs[..end], xs.len(), ys, list);
-    Listed::Count(count)
+    Ok(count)
 }
 
 // The points of one output, in three rows of zeros.
@@ -47,7 +39,7 @@ fn list_in(
     mode: EdgeMode,
     out: usize,
     list: &mut [[u64; 2]],
-) -> Listed
+) -> Result<usize, Refusal>
     requires fact_1 { ShareAsked size.w size.h n numerators.now out }
     requires fact_2 { RowReady size.w work.old × RowReady size.h work.old }
     requires fact_3 { RowReady size.w xs.old }
@@ -85,7 +77,7 @@ fn list_points(
     mode: EdgeMode,
     out: usize,
     list: &mut [[u64; 2]],
-) -> Listed
+) -> Result<usize, Refusal>
     requires { ShareAsked size.w size.h n numerators.now out }
     ensures { list_answer result list.new ≡ settled (first_of (full_checks (length list.old) (points_below (share_at mode numerators.now n size.w size.h out) (size.w * size.h)))) (points_left list.old 0) (list_done (points_below (share_at mode numerators.now n size.w size.h out) (size.w * size.h)) list.old) }
 {
@@ -97,7 +89,7 @@ fn list_points(
     )
 }
 
-// The nonzero shares of one output, in scan order, into a lent list. It gives refusals 1, 4, 9, 21, 22, 14 and 17.
+// Lists the nonzero shares of one output, in scan order, in a lent list, and answers how many points those are. It gives refusals 1, 4, 9, 21, 22, 14 and 17.
 pub fn list(
     w: u32,
     h: u32,
@@ -106,19 +98,17 @@ pub fn list(
     edge: u32,
     out_place: u64,
     list: &mut [[u64; 2]],
-) -> Listed
+) -> Result<usize, Refusal>
     ensures { list_answer result list.new ≡ list_outcome w h numerators.now n edge out_place list.old }
 {
     let outside = place_outside(w, h, out_place);
-    match check_share(w, h, numerators, n, edge, outside) {
-        Checked::Refused(r) => Listed::Refused(r),
-        Checked::Passed => list_points(
-            picture::full_size(w, h),
-            n,
-            numerators,
-            picture::edge_mode(edge),
-            out_place as usize,
-            list,
-        ),
-    }
+    check_share(w, h, numerators, n, edge, outside)?;
+    list_points(
+        picture::full_size(w, h),
+        n,
+        numerators,
+        picture::edge_mode(edge),
+        out_place as usize,
+        list,
+    )
 }

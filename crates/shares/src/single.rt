@@ -6,16 +6,9 @@ ghost use Rattle.share_checks.specs.Needs.{AxisAsked, RowReady, ShareAsked};
 ghost use Rattle.shares.specs.Outcome.{share_answer, share_outcome};
 
 use backwards::LevelSide;
-use picture::{EdgeMode, FullSize};
+use picture::{EdgeMode, FullSize, Refusal};
 use share_checks::axes::fill_axis;
-use share_checks::checks::{Checked, ShareRefusal, check_share, place_outside};
-
-// What the entry answers: the share, over 2^(10n+32).
-#[derive(Clone, Copy)]
-pub enum Shared {
-    Refused(ShareRefusal),
-    Share(u64),
-}
+use share_checks::checks::{check_share, place_outside};
 
 // The share of input i in output o along one axis, in two rows of zeros.
 fn share_in(
@@ -93,13 +86,11 @@ fn share_of(
 fn either_outside(w: u32, h: u32, a: u64, b: u64) -> bool
     ensures { result ≡ (place_outside w h a || place_outside w h b) }
 {
-    if place_outside(w, h, a) {
-        return true;
-    }
-    place_outside(w, h, b)
+    place_outside(w, h, a) || place_outside(w, h, b)
 }
 
-// The exact whole-number weight of an input place in an output place. It gives refusals 1, 4, 9, 21, 22 and 14.
+// The exact whole-number weight of an input place in an output place, over 2^(10n+32). It gives refusals 1, 4, 9, 21, 22 and 14.
+#[tactic(auto, unfolding(picture::specs::Refusal::number_of, picture::specs::Answer::settled, crate::specs::Outcome::share_outcome), using(picture::proofs::Refused::number_some))]
 pub fn share(
     w: u32,
     h: u32,
@@ -108,21 +99,17 @@ pub fn share(
     edge: u32,
     out_place: u64,
     in_place: u64,
-) -> Shared
+) -> Result<u64, Refusal>
     ensures { share_answer result ≡ share_outcome w h numerators.now n edge out_place in_place }
 {
     let outside = either_outside(w, h, out_place, in_place);
-    match check_share(w, h, numerators, n, edge, outside) {
-        Checked::Refused(r) => Shared::Refused(r),
-        Checked::Passed => {
-            Shared::Share(share_of(
-                picture::full_size(w, h),
-                n,
-                numerators,
-                picture::edge_mode(edge),
-                out_place as usize,
-                in_place as usize,
-            ))
-        }
-    }
+    check_share(w, h, numerators, n, edge, outside)?;
+    Ok(share_of(
+        picture::full_size(w, h),
+        n,
+        numerators,
+        picture::edge_mode(edge),
+        out_place as usize,
+        in_place as usize,
+    ))
 }

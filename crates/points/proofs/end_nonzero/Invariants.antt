@@ -1,9 +1,8 @@
--- Every element from the i-th on is 0.
-use Rattle.points.specs.Needs.{EndNonzero}
+-- Of the elements so far, every one from `end` on is 0.
+use mathlib.Core.Path.{◌≡◌}
+use Prim.Native.Nat.{ℕ, ◌≤◌, ◌<◌}
+use lib.ListN.{get_or}
 use Rattle.points.proofs.end_nonzero.Given as goal
 
 abbrev pub invariant-loop-i : goal.invariant-loop-i
-invariant-loop-i l = EndNonzero l.row l.i
-
-abbrev pub decreases-loop-i : goal.decreases-loop-i
-decreases-loop-i l = l.i
+invariant-loop-i l = (l.end ≤ l.i) × ((k : ℕ) → l.end ≤ k → k < l.i → get_or l.row k 0 ≡ 0)

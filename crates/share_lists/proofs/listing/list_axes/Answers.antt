@@ -7,6 +7,7 @@ use native.Mathlib.Omega.{arith}
 use lib.ListN.{length}
 use lib.Seq.{length-take-le}
 use Rattle.picture.specs.Answer.{answered}
+use Rattle.picture.specs.Refusal.{number}
 use Rattle.picture.specs.Buffers.{line_of}
 use Rattle.picture.proofs.Sizes.{room_is}
 use Rattle.mending.specs.Changes.{laid_entries}
@@ -38,6 +39,7 @@ pub overflow_mul-count : goal.overflow_mul-count
 overflow_mul-count c = omega (arith, (counted (goal.at.overflow_mul-count c).After-nonzeros-2).1)
 
 pub returns-then-list-count : goal.returns-then-list-count
+unfolding number
 returns-then-list-count c =
     let a = c.args in
     list_full (points_below (product_at (length a.xs.now) a.xs.now a.ys.now) (length a.ys.now * length a.xs.now)) a.list.now
