@@ -1,5 +1,5 @@
 -- Refused, or the work of an accepted call.
-use mathlib.Core.Path.{sym, ◌∙◌}
+use mathlib.Core.Path.{sym}
 use Rattle.std.proofs.lemmas.Result.{err_from_is_err_and}
 use Rattle.picture.specs.Refusal.{number_of}
 use Rattle.picture.proofs.Answers.{done}

@@ -4,9 +4,6 @@ use lib.Ieee.{of_bits}
 use Rattle.gaussian_blur.proofs.Outcomes.{blurs, keeps}
 use Rattle.gaussian_blur.proofs.blur_form.Goals as goal
 
-pub apply_blur-requires : goal.apply_blur-requires
-apply_blur-requires c = let p = c.requires in rw c.level_zero.ensures (p.fact_1, (p.fact_2, (p.fact_3, (p.fact_4, p.fact_5))))
-
 pub returns-then-strength : goal.returns-then-strength
 unfolding of_bits
 returns-then-strength c =

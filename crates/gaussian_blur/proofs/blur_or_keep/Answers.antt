@@ -2,16 +2,12 @@
 use mathlib.Core.Path.{◌∙◌, refl}
 use Rattle.passes.specs.Forms.{of_pixels}
 use Rattle.passes.specs.Passes.{convolve}
-use Rattle.passes.proofs.Forms.{pixels_formed, as_pixels}
 use Rattle.passes.proofs.Local.{convolve_local}
 use Rattle.gaussian_blur.specs.Blurred.{blurred}
 use Rattle.gaussian_blur.specs.Outcome.{blurred_or_kept}
 use Rattle.gaussian_blur.proofs.Step.{pixels_blurred}
 use Rattle.gaussian_blur.proofs.Outcomes.{made_or_kept}
 use Rattle.gaussian_blur.proofs.blur_or_keep.Goals as goal
-
-pub blur_form-requires : goal.blur_form-requires
-blur_form-requires c = let z = c.args.size in record { fact_1 = pixels_formed; fact_2 = c.requires.pictured.sized; fact_3 = as_pixels z.w z.h c.requires.pictured.exact; fact_4 = as_pixels z.w z.h c.requires.scratch_is; fact_5 = c.requires.kernel }
 
 pub returns : goal.returns
 unfolding blurred_or_kept blurred

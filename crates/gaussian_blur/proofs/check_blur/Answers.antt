@@ -1,5 +1,5 @@
 -- A group of checks that refuses does so for the whole.
-use Rattle.std.proofs.Common.{not, [], ◌∷◌, length, refl, arith}
+use Rattle.std.proofs.Common.{not, [], ◌∷◌, arith}
 use Rattle.std.proofs.lemmas.Result.{err_from_is_err_and}
 use Rattle.picture.specs.Refusal.{number_of, first_else, first_of, check, picture_checks, too_deep, wrong_edge}
 use Rattle.binary32.specs.Ranges.{finite}
