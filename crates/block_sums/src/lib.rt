@@ -84,7 +84,7 @@ fn convolve_strip(
     }
 }
 
-// Outputs x up to x + m of the line at start, strip by strip, into dst.
+// Outputs x up to x + m of the line at start, strip by strip, into dst. It counts by hand, since the last strip may be narrower.
 fn convolve_strips(
     line: &mut [f32],
     src: &[u8],

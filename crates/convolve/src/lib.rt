@@ -27,7 +27,7 @@ const SHORT: usize = 1280;
 // If there are no more lines than this: many rows of 16 pixels were up to 5 % slower so, and of many lines the zeroing is little.
 const FEW: usize = 64;
 
-// The line at start, in blocks of at most `most` elements, into dst.
+// The line at start, in blocks of at most `most` elements, into dst. It counts by hand, since the last block may be shorter.
 fn convolve_line(
     line: &mut [f32],
     src: &[u8],
@@ -151,16 +151,15 @@ pub fn convolve_lines(
     requires { ConvolveLines src.now dst.old weights.now lines len stride }
     ensures { dst.new ≡ passed (convolve mode weights.now) src.now lines len len stride }
 {
-    if FEW < lines {
-        convolve_long(src, dst, lines, len, stride, weights, mode);
-    } else if SHORT / stride < len + weights.len() - 1 {
+    if FEW < lines || SHORT / stride < len + weights.len() - 1 {
         convolve_long(src, dst, lines, len, stride, weights, mode);
     } else {
         convolve_short(src, dst, lines, len, stride, weights, mode);
     }
 }
 
-// Lines turned, convolved as one line, and turned back. What lies in picture is room for the one line.
+// Lines turned, convolved as one line, and turned back. What lies in picture is room for the one line. whole_lines has the same three calls round
+// its own convolution: one function for both would take a trait with its contract and two types that have it, which is longer than the two.
 fn convolve_turned(
     picture: &mut [u8],
     scratch: &mut [u8],
@@ -183,11 +182,7 @@ fn convolve_turned(
 // ones. Nothing rests on it but time: the bytes are the same either way.
 fn pays(len: usize, lines: usize, lanes: usize, taps: usize) -> bool {
     let free = if lanes == 1 { 11 } else { 8 };
-    if len / 8 + 1 < lines {
-        len.saturating_sub(free) <= taps
-    } else {
-        false
-    }
+    len / 8 + 1 < lines && len.saturating_sub(free) <= taps
 }
 
 // Lines that are a level's rows. Rows of one element are one line of one element, of all their bytes: so few lanes at a time are not worth a

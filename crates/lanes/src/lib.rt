@@ -81,7 +81,8 @@ fn weigh_group(
 }
 
 // Of n lanes those from `first` on, in groups of `size` while there are as many, into dst from o on: answers the first lane that is left. Where
-// it is called with a number for `size`, the compiler keeps a group's sums in registers from the first tap to the rounding.
+// it is called with a number for `size`, the compiler keeps a group's sums in registers from the first tap to the rounding. It counts by hand, since
+// the lane that it comes to is the answer.
 fn weigh_groups(
     dst: &mut [u8],
     o: usize,
@@ -123,13 +124,11 @@ fn weigh_large(
     requires fact_2 { Weighable line.now weights.now a step n }
     ensures { Grouped 0 n group_room result × Span 0 dst.old dst.new o 0 result (lane_byte line.now a step weights.now) }
 {
-    if weights.len() == 3 {
-        return weigh_groups(dst, o, 0, n, GROUP, line, a, step, &weights[..3]);
+    match weights.len() {
+        3 => weigh_groups(dst, o, 0, n, GROUP, line, a, step, &weights[..3]),
+        5 => weigh_groups(dst, o, 0, n, GROUP, line, a, step, &weights[..5]),
+        _ => weigh_groups(dst, o, 0, n, GROUP, line, a, step, weights),
     }
-    if weights.len() == 5 {
-        return weigh_groups(dst, o, 0, n, GROUP, line, a, step, &weights[..5]);
-    }
-    weigh_groups(dst, o, 0, n, GROUP, line, a, step, weights)
 }
 
 // n lanes of line from a on, summed under all weights, as bytes into dst from o on: in groups as large as registers hold, and what is left in

@@ -84,11 +84,9 @@ pub fn turn(src: &[u8], dst: &mut [u8], lines: usize, len: usize, size: usize)
     requires { Turnable src.now dst.old lines len size }
     ensures { dst.new ≡ turned src.now lines len size }
 {
-    if size == 4 {
-        turn_pixels(src, dst, lines, len);
-    } else if size == 1 {
-        turn_elements(src, dst, lines, len, 1);
-    } else {
-        turn_elements(src, dst, lines, len, size);
+    match size {
+        4 => turn_pixels(src, dst, lines, len),
+        1 => turn_elements(src, dst, lines, len, 1),
+        _ => turn_elements(src, dst, lines, len, size),
     }
 }

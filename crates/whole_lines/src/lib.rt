@@ -32,15 +32,13 @@ fn run_at(len: usize, stride: usize, taps: usize, p: usize) -> LineRun
     let after = taps - 1 - d;
     let x = p / stride;
     let from = p % stride;
-    if d <= x {
-        if x + after < len {
-            return LineRun {
-                x,
-                from,
-                n: LANES.min((len - after) * stride - p),
-                inner: true,
-            };
-        }
+    if d <= x && x + after < len {
+        return LineRun {
+            x,
+            from,
+            n: LANES.min((len - after) * stride - p),
+            inner: true,
+        };
     }
     LineRun {
         x,
@@ -50,7 +48,7 @@ fn run_at(len: usize, stride: usize, taps: usize, p: usize) -> LineRun
     }
 }
 
-// The line at start, run by run, into the line at o.
+// The line at start, run by run, into the line at o. It counts by hand, since each run says how long it is.
 fn whole_line(
     acc: &mut [u32],
     src: &[u8],
@@ -110,7 +108,7 @@ fn whole_lines(
     }
 }
 
-// Rows turned, convolved as one line, and turned back. What lies in picture is room for the one line.
+// Rows turned, convolved as one line, and turned back, as `convolve_turned` of convolve does. What lies in picture is room for the one line.
 fn whole_turned(
     picture: &mut [u8],
     scratch: &mut [u8],
@@ -127,7 +125,7 @@ fn whole_turned(
     turns::turn(picture, scratch, w, h, 4);
 }
 
-// The same in bands, each turned by itself.
+// The same in bands, each turned by itself. It counts by hand, since the last band may have fewer rows.
 fn whole_bands(
     picture: &mut [u8],
     scratch: &mut [u8],

@@ -1,6 +1,6 @@
 -- The block is filled; then each turn rounds the sums of one element more.
 use mathlib.Core.Path.{◌≡◌}
-use Prim.Native.Nat.{◌+◌, ◌-◌, ◌≤◌}
+use Prim.Native.Nat.{◌+◌}
 use lib.ListN.{length}
 use Rattle.picture.specs.declared.EdgeMode.{EdgeMode}
 use Rattle.block_sums.specs.Bytes.{Convolved, Strip}

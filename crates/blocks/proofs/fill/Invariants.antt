@@ -1,6 +1,6 @@
 -- Each turn makes the values of one element more.
 use mathlib.Core.Path.{◌≡◌}
-use Prim.Native.Nat.{◌-◌, ◌*◌, ◌≤◌, ◌<◌}
+use Prim.Native.Nat.{◌*◌, ◌≤◌, ◌<◌}
 use lib.Ieee.{nan}
 use lib.ListN.{length}
 use Rattle.blocks.specs.Blocks.{block_value, Made}

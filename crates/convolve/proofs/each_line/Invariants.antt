@@ -1,6 +1,5 @@
 -- Each turn makes one line more, in the part of dst that it is lent.
 use mathlib.Core.Path.{◌≡◌}
-use Prim.Native.Nat.{◌-◌, ◌≤◌}
 use lib.ListN.{length}
 use Rattle.passes.specs.Passes.{convolve}
 use Rattle.passes.proofs.Written.{Lined}

@@ -4,7 +4,7 @@ use Rattle.lanes.proofs.Groups.{as_many, counted}
 use Rattle.lanes.proofs.weigh_large.Goals as goal
 
 pub slice_bounds-weigh_groups-end : goal.slice_bounds-weigh_groups-end
-slice_bounds-weigh_groups-end c = counted c.args.weights.now c.if-weights-eq3.true
+slice_bounds-weigh_groups-end c = counted c.args.weights.now c.in-3.is
 
 pub weigh_groups-requires : goal.weigh_groups-requires
 weigh_groups-requires c =
@@ -12,23 +12,23 @@ weigh_groups-requires c =
       fact_1 = c.requires.fact_1;
       fact_2 = omega arith;
       fact_3 = (omega arith, omega arith);
-      fact_4 = rw (as_many c.args.weights.now c.if-weights-eq3.true) c.requires.fact_2;
+      fact_4 = rw (as_many c.args.weights.now c.in-3.is) c.requires.fact_2;
     }
 
-pub returns-then-weights-eq3 : goal.returns-then-weights-eq3
-returns-then-weights-eq3 c = rw (as_many c.args.weights.now c.if-weights-eq3.true) at c.weigh_groups.ensures
+pub returns-in-3 : goal.returns-in-3
+returns-in-3 c = rw (as_many c.args.weights.now c.in-3.is) at c.weigh_groups.ensures
 
-pub slice_bounds-weigh_groups-end-then-weights-eq5 : goal.slice_bounds-weigh_groups-end-then-weights-eq5
-slice_bounds-weigh_groups-end-then-weights-eq5 c = counted c.args.weights.now c.if-weights-eq5.true
+pub slice_bounds-weigh_groups-end-in-5 : goal.slice_bounds-weigh_groups-end-in-5
+slice_bounds-weigh_groups-end-in-5 c = counted c.args.weights.now c.in-5.is
 
-pub weigh_groups-requires-then-weights-eq5 : goal.weigh_groups-requires-then-weights-eq5
-weigh_groups-requires-then-weights-eq5 c =
+pub weigh_groups-requires-in-5 : goal.weigh_groups-requires-in-5
+weigh_groups-requires-in-5 c =
     record {
       fact_1 = c.requires.fact_1;
       fact_2 = omega arith;
       fact_3 = (omega arith, omega arith);
-      fact_4 = rw (as_many c.args.weights.now c.if-weights-eq5.true) c.requires.fact_2;
+      fact_4 = rw (as_many c.args.weights.now c.in-5.is) c.requires.fact_2;
     }
 
-pub returns-then-weights-eq5 : goal.returns-then-weights-eq5
-returns-then-weights-eq5 c = rw (as_many c.args.weights.now c.if-weights-eq5.true) at c.weigh_groups-then-weights-eq5.ensures
+pub returns-in-5 : goal.returns-in-5
+returns-in-5 c = rw (as_many c.args.weights.now c.in-5.is) at c.weigh_groups-in-5.ensures

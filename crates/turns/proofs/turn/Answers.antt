@@ -1,15 +1,14 @@
 -- Four bytes, one or any other number of them.
-use mathlib.Core.Path.{sym}
 use Rattle.turns.proofs.turn.Goals as goal
 
 pub turn_pixels-requires : goal.turn_pixels-requires
-turn_pixels-requires c = rw (sym c.if-size-eq4.true) c.requires
+turn_pixels-requires c = rw c.in-4.is at c.requires
 
 pub turn_elements-requires : goal.turn_elements-requires
-turn_elements-requires c = rw (sym c.if-size-eq1.true) c.requires
+turn_elements-requires c = rw c.in-1.is at c.requires
 
-pub returns-then-size-eq4 : goal.returns-then-size-eq4
-returns-then-size-eq4 c = rw c.if-size-eq4.true c.turn_pixels.ensures
+pub returns-in-4 : goal.returns-in-4
+returns-in-4 c = rw c.in-4.is c.turn_pixels.ensures
 
-pub returns-then-size-eq1 : goal.returns-then-size-eq1
-returns-then-size-eq1 c = rw c.if-size-eq1.true c.turn_elements.ensures
+pub returns-in-1 : goal.returns-in-1
+returns-in-1 c = rw c.in-1.is c.turn_elements.ensures
