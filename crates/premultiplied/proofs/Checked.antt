@@ -5,6 +5,7 @@ use mathlib.Core.List.{List}
 use Prim.Native.Nat.{ℕ, zero, suc, ◌+◌, ◌*◌, ◌/◌, ◌%◌, ◌≤◌, ◌<◌}
 use native.Mathlib.Nat.{mul_comm, zero-mul, mod-lt, div-lt_iff_lt-mul}
 use native.Mathlib.Omega.{arith}
+use Rattle.std.specs.Prelude.{None, Ok}
 use Rattle.picture.specs.Planes.{chan}
 use Rattle.picture.specs.Answer.{answered}
 use Rattle.picture.proofs.Answers.{done}
@@ -14,7 +15,6 @@ use Rattle.pixels.specs.Pixels.{pixel_at}
 use Rattle.pixels.specs.Channels.{exceeds_at}
 use Rattle.pixels.proofs.Painting.{at, chan_here}
 use Rattle.grading.specs.Premultiplied.{none, finding, checked}
-use Rattle.grading.specs.declared.premultiplied.Checked.TheVariants.{Fits}
 use Rattle.grading.proofs.Injective.{finding_injective}
 use Rattle.grading.proofs.Scanned.{passes_at, finds_none, below_alpha, fits_alpha}
 use Rattle.premultiplied.specs.Rule.{Premultiplied, UnderAlpha, InChannels, AsChecked, AsAnswered}
@@ -56,4 +56,4 @@ is_checked p w h = (
 pub fits_is : AsAnswered
 fits_is κs a r left post =
     let is = is_checked a.0.now a.1.0 a.1.1.0 in
-    (λ e. is.0 (sym post ∙ ap finding e), λ b. finding_injective r Fits (post ∙ is.1 b))
+    (λ e. is.0 (sym post ∙ ap finding e), λ b. finding_injective r (Ok None) (post ∙ is.1 b))

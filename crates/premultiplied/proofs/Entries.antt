@@ -5,6 +5,7 @@ use mathlib.Core.List.{List}
 use Prim.Native.Nat.{ℕ}
 use native.Mathlib.Omega.{arith}
 use lib.Ieee.{Float}
+use Rattle.picture.specs.Refusal.{number_of}
 use Rattle.picture.specs.Answer.{answered, Lent, lent, LentCopy, lent_copy}
 use Rattle.kept.proofs.Left.{either_way}
 use Rattle.gaussian_blur.specs.Outcome.{blur_outcome}
@@ -55,8 +56,8 @@ stays_premultiplied =
       wholes = whole_keeps;
       shifts = shift_keeps;
       shadows = λ mode weights n recipe composite w h. shadow_keeps mode weights n recipe w h composite;
-      blur = λ κs a r left. blur_leaves_lem _ _ _ _ _ _ _ _ r (lent left.0.now left.1.1.1.0.now);
-      whole = λ κs a r left. whole_leaves_lem _ _ _ _ _ _ _ r (lent left.0.now left.1.1.1.0.now);
-      shift = λ κs a r left. shift_leaves_lem _ _ _ _ _ r left.0.now;
-      shadow = λ κs a r left. shadow_leaves_lem _ _ _ _ _ _ _ _ _ _ r (lent_copy left.0.now left.1.1.1.0.now left.1.1.1.1.0.now);
+      blur = λ κs a r left. blur_leaves_lem _ _ _ _ _ _ _ _ (number_of r) (lent left.0.now left.1.1.1.0.now);
+      whole = λ κs a r left. whole_leaves_lem _ _ _ _ _ _ _ (number_of r) (lent left.0.now left.1.1.1.0.now);
+      shift = λ κs a r left. shift_leaves_lem _ _ _ _ _ (number_of r) left.0.now;
+      shadow = λ κs a r left. shadow_leaves_lem _ _ _ _ _ _ _ _ _ _ (number_of r) (lent_copy left.0.now left.1.1.1.0.now left.1.1.1.1.0.now);
     }

@@ -1,15 +1,15 @@
 -- Premultiplied pictures, and that they are what the check says (request 09).
-use Rattle.std.specs.Prelude.{◌≡◌, false, List, ◌↔◌, ℕ, ◌*◌, ◌≤◌, ◌<◌, length}
+use Rattle.std.specs.Prelude.{◌≡◌, false, Option, None, Result, Ok, List, ◌↔◌, ℕ, ◌*◌, ◌≤◌, ◌<◌, length}
 use contract.Lifetimes.{Lfts}
 use borrow.Fn.Kinds.{Dens, ended_of}
 use denote.Triple.Clauses.{AtExit}
 use Rattle.picture.specs.Planes.{chan}
 use Rattle.picture.specs.Answer.{answered}
 use Rattle.picture.specs.Refusal.{first_of, picture_checks}
+use Rattle.picture.specs.declared.checks.Refusal.{Refusal}
 use Rattle.pixels.specs.Channels.{exceeds_at}
 use Rattle.grading.specs.Premultiplied.{none, checked}
-use Rattle.grading.specs.declared.premultiplied.Checked.{Checked}
-use Rattle.grading.specs.declared.premultiplied.Checked.TheVariants.{Fits}
+use Rattle.grading.specs.declared.premultiplied.Place.{Place}
 use Rattle.grading.proofs.premultiplied.check.Reads as check
 use Rattle.grading.proofs.premultiplied.check.Kinds as kinds
 
@@ -31,8 +31,8 @@ AsChecked = (p : List ℕ) (w h : ℕ) → (checked p w h ≡ answered 0 none) �
 -- and there the entry `check` answers that the picture fits
 abbrev pub AsAnswered : Type 0
 AsAnswered =
-    (κs : Lfts 1) (a : Dens κs kinds.ps) (r : Checked) (left : AtExit (ended_of 1 kinds.ps kinds.r) κs) → check.Post κs a r left →
+    (κs : Lfts 1) (a : Dens κs kinds.ps) (r : Result (Option Place) Refusal) (left : AtExit (ended_of 1 kinds.ps kinds.r) κs) → check.Post κs a r left →
     let p = a.0.now in
     let w = a.1.0 in
     let h = a.1.1.0 in
-    (r ≡ Fits) ↔ ((first_of (picture_checks (length p) w h) ≡ 0) × Premultiplied w h p)
+    (r ≡ Ok None) ↔ ((first_of (picture_checks (length p) w h) ≡ 0) × Premultiplied w h p)

@@ -1,10 +1,11 @@
 -- If no channel of any pixel exceeds its alpha before, none does after a blur, a shift or a shadow: every weight list that the checks let through,
 -- on the grid or not, every edge mode, n, strength, offset and colour, with or without the original over the shadow; and so of the blur in whole numbers (request 09).
-use Rattle.std.specs.Prelude.{Bool, List, ℕ, Float}
+use Rattle.std.specs.Prelude.{Bool, Result, List, ℕ, Float}
 use contract.Lifetimes.{Lfts}
 use borrow.Fn.Kinds.{Dens, ended_of}
 use denote.Triple.Clauses.{AtExit}
 use Rattle.picture.specs.declared.EdgeMode.{EdgeMode}
+use Rattle.picture.specs.declared.checks.Refusal.{Refusal}
 use Rattle.binary32.specs.declared.Offset.{Offset}
 use Rattle.passes.specs.Kernel.{Kernel}
 use Rattle.gaussian_blur.specs.Outcome.{blurred_or_kept}
@@ -40,11 +41,11 @@ pub record StaysPremultiplied : Type 0 where
   pub shifts : (dx dy : Offset) (w h : ℕ) → KeepsPremultiplied w h (shifted_picture dx dy w h)
   pub shadows : (mode : EdgeMode) (weights : List Float) (n : ℕ) (recipe : Recipe) (composite : Bool) (w h : ℕ) → KeepsPremultiplied w h (shadowed mode weights n recipe composite w h)
   -- each entry by its contract, whatever it answers: a refused call leaves the picture as it was
-  pub blur : (κs : Lfts 3) (a : Dens κs blur_kinds.ps) (r : ℕ) (left : AtExit (ended_of 3 blur_kinds.ps blur_kinds.r) κs) → blur.Post κs a r left →
+  pub blur : (κs : Lfts 3) (a : Dens κs blur_kinds.ps) (r : Result Unit Refusal) (left : AtExit (ended_of 3 blur_kinds.ps blur_kinds.r) κs) → blur.Post κs a r left →
       LeavesPremultiplied a.1.0 a.1.1.0 a.0.now left.0.now
-  pub whole : (κs : Lfts 3) (a : Dens κs whole_kinds.ps) (r : ℕ) (left : AtExit (ended_of 3 whole_kinds.ps whole_kinds.r) κs) → whole.Post κs a r left →
+  pub whole : (κs : Lfts 3) (a : Dens κs whole_kinds.ps) (r : Result Unit Refusal) (left : AtExit (ended_of 3 whole_kinds.ps whole_kinds.r) κs) → whole.Post κs a r left →
       LeavesPremultiplied a.1.0 a.1.1.0 a.0.now left.0.now
-  pub shift : (κs : Lfts 1) (a : Dens κs shift_kinds.ps) (r : ℕ) (left : AtExit (ended_of 1 shift_kinds.ps shift_kinds.r) κs) → shift.Post κs a r left →
+  pub shift : (κs : Lfts 1) (a : Dens κs shift_kinds.ps) (r : Result Unit Refusal) (left : AtExit (ended_of 1 shift_kinds.ps shift_kinds.r) κs) → shift.Post κs a r left →
       LeavesPremultiplied a.1.0 a.1.1.0 a.0.now left.0.now
-  pub shadow : (κs : Lfts 4) (a : Dens κs shadow_kinds.ps) (r : ℕ) (left : AtExit (ended_of 4 shadow_kinds.ps shadow_kinds.r) κs) → shadow.Post κs a r left →
+  pub shadow : (κs : Lfts 4) (a : Dens κs shadow_kinds.ps) (r : Result Unit Refusal) (left : AtExit (ended_of 4 shadow_kinds.ps shadow_kinds.r) κs) → shadow.Post κs a r left →
       LeavesPremultiplied a.1.0 a.1.1.0 a.0.now left.0.now
