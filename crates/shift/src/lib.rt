@@ -4,6 +4,7 @@
 ghost use Rattle.std.specs.Prelude.{◌≡◌, ◌||◌, ◌+◌, ◌*◌, ◌≤◌, ◌<◌, length};
 ghost use Rattle.picture.specs.Refusal.{number_of, first_of};
 ghost use Rattle.picture.specs.Answer.{answered};
+ghost use Rattle.picture.specs.Buffers.{copied};
 ghost use Rattle.binary32.specs.Round.{whole_offset};
 ghost use Rattle.shift.specs.Shift.{shifted_picture};
 ghost use Rattle.shift.specs.Bytes.{along, slid, zeroed, run_moved, turn_row, columns_zeroed, inside_kept, plane_shifted, OneWay, moved_out, elements_shifted};
@@ -28,6 +29,17 @@ fn clear_run(bytes: &mut [u8], start: usize, n: usize)
     picture::clear(&mut bytes[start..], n);
 }
 
+// Copies the n bytes from `from` on to the place `to`. Where that is one place no byte is touched: a picture that does not move costs no pass.
+fn copy_run(bytes: &mut [u8], from: usize, to: usize, n: usize)
+    requires { (from + n ≤ length bytes.old) × (to + n ≤ length bytes.old) }
+    ensures { bytes.new ≡ copied n from to bytes.old }
+{
+    if from == to {
+        return;
+    }
+    picture::move_bytes(bytes, from, to, n);
+}
+
 // Makes of the w bytes from `to` on those from `from` on, moved by d: what stays inside is copied, the rest is cleared.
 fn move_run(bytes: &mut [u8], from: usize, to: usize, w: usize, d: ByteOffset)
     requires { (from + w ≤ length bytes.old) × (to + w ≤ length bytes.old) × OneWay (along d) × (d.plus + d.minus ≤ w) }
@@ -36,7 +48,7 @@ fn move_run(bytes: &mut [u8], from: usize, to: usize, w: usize, d: ByteOffset)
     let plus = d.plus;
     let minus = d.minus;
     let kept = w - (plus + minus);
-    picture::move_bytes(bytes, from + minus, to + plus, kept);
+    copy_run(bytes, from + minus, to + plus, kept);
     clear_run(bytes, to, plus);
     clear_run(bytes, to + plus + kept, minus);
 }

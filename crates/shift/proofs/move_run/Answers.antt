@@ -10,5 +10,5 @@ returns c =
     let a = c.args in
     let kept = a.w - (a.d.plus + a.d.minus) in
     c.clear_run-2.ensures
-    ∙ ap (zeroed (a.to + a.d.plus + kept) a.d.minus) (c.clear_run.ensures ∙ ap (zeroed a.to a.d.plus) c.move_bytes.ensures)
+    ∙ ap (zeroed (a.to + a.d.plus + kept) a.d.minus) (c.clear_run.ensures ∙ ap (zeroed a.to a.d.plus) c.copy_run.ensures)
     ∙ run_cleared (along a.d) a.w a.from a.to a.bytes.now c.requires.2 c.requires.3 c.requires.1
