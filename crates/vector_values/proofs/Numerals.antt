@@ -9,9 +9,11 @@ use borrow.Author.Tests.{lt-ltb, le-ltb, ltb-true, ltb-false, ne_eqb, eq-eqb}
 use lib.Dec.{ltb}
 use lib.ListN.{length, get_or, drop, drop_of_length-le}
 use lib.Seq.{drop-cons}
+use Rattle.std.specs.Bool.{then_some}
+use Rattle.std.proofs.Common.{None, take, ◌-◌}
+use Rattle.std.proofs.lemmas.Grind.{common_steps}
 use Rattle.vector_values.specs.declared.text.Reading.{Reading}
-use Rattle.vector_values.specs.declared.text.Reading.TheVariants.{Number, Broken}
-use Rattle.vector_values.specs.Numerals.{digit_of, value_on, digits, pick, numeral_at, line_length}
+use Rattle.vector_values.specs.Numerals.{digit_of, value_on, digits, numeral_at, line_length}
 
 module _ (text : List ℕ) (i : ℕ) where
   pub past_value : (value : ℕ) → length text ≤ i → value_on value (drop i text) ≡ value
@@ -62,6 +64,10 @@ value_grows (c ∷ text) value = go (ltb (digit_of c) 10) (value_grows text (val
     go true h = omega arith
     go false h = omega arith
 
+-- a byte of the text from a place on
+pub byte_from : (text : List ℕ) (at k : ℕ) → k < length (take (length text - at) (drop at text)) → get_or (take (length text - at) (drop at text)) k 0 ≡ get_or text (at + k) 0
+byte_from text at k h = grind (arith, common_steps)
+
 -- how far a text has been read: what was read and what is left make the whole number
 pub record Read (text : List ℕ) (at i value : ℕ) : Type 0 where
   pub low : at ≤ i
@@ -72,21 +78,21 @@ pub record Read (text : List ℕ) (at i value : ℕ) : Type 0 where
 
 module _ {text : List ℕ} {at i value : ℕ} (r : Read text at i value) where
   -- no digit is left
-  pub stopped : value_on value (drop i text) ≡ value → digits (drop i text) ≡ 0 → pick (ltb at i) (Number value i) Broken ≡ numeral_at text at
+  pub stopped : value_on value (drop i text) ≡ value → digits (drop i text) ≡ 0 → then_some (ltb at i) (record { value = value; end = i }) ≡ numeral_at text at
   unfolding numeral_at
   stopped v d =
       let e : at + digits (drop at text) ≡ i = omega arith in
-      rw (r.value_is ∙ v, lt-ltb value (2 ^ 64) r.held, e) (ap (λ (b : Bool). pick b (Number value i) Broken) (some (digits (drop at text)) e _ refl))
+      rw (r.value_is ∙ v, lt-ltb value (2 ^ 64) r.held, e) (ap (λ (b : Bool). then_some b (let n : Reading = record { value = value; end = i } in n)) (some (digits (drop at text)) e _ refl))
     where
       some : (n : ℕ) → at + n ≡ i → (b : Bool) → ltb 0 n ≡ b → ltb at i ≡ (b && true)
       some n e true h = lt-ltb at i (omega (arith, ltb-true 0 n h))
       some n e false h = le-ltb at i (omega (arith, ltb-false 0 n h))
 
   -- the number outgrows 64 bits
-  pub too_large : 2 ^ 64 ≤ value_on value (drop i text) → Broken ≡ numeral_at text at
+  pub too_large : 2 ^ 64 ≤ value_on value (drop i text) → None ≡ numeral_at text at
   unfolding numeral_at
   too_large h = rw (r.value_is, le-ltb (value_on value (drop i text)) (2 ^ 64) h) (never (ltb 0 (digits (drop at text))) _)
     where
-      never : (b : Bool) (x : Reading) → Broken ≡ pick (b && false) x Broken
+      never : (b : Bool) (x : Reading) → None ≡ then_some (b && false) x
       never true x = refl
       never false x = refl

@@ -1,7 +1,7 @@
 -- Decimal numbers and lines in a text of bytes.
-use Rattle.std.specs.Prelude.{Bool, true, false, cond, ◌&&◌, List, [], ◌∷◌, ℕ, suc, ◌+◌, ◌*◌, ◌-◌, ◌^◌, eqb, leb, ltb, drop}
+use Rattle.std.specs.Prelude.{cond, ◌&&◌, List, [], ◌∷◌, ℕ, suc, ◌+◌, ◌*◌, ◌-◌, ◌^◌, eqb, leb, ltb, drop, Option, Some, None}
+use Rattle.std.specs.Bool.{then_some}
 use Rattle.vector_values.specs.declared.text.Reading.{Reading}
-use Rattle.vector_values.specs.declared.text.Reading.TheVariants.{Number, Broken}
 
 -- what the digits 0 to 9 count, bytes 48 to 57, or 10 for any other byte
 unfoldable pub digit_of : ℕ → ℕ
@@ -17,21 +17,16 @@ unfoldable pub digits : List ℕ → ℕ
 digits [] = 0
 digits (c ∷ text) = cond (ltb (digit_of c) 10) (suc (digits text)) 0
 
-abbrev pub pick : Bool → Reading → Reading → Reading
-pick true a b = a
-pick false a b = b
-
--- the number at a place and the place after it; broken where no digit stands, or 64 bits do not hold it
-unfoldable pub numeral_at : List ℕ → ℕ → Reading
+-- the number at a place and the place after it, unless no digit stands there or 64 bits do not hold it
+unfoldable pub numeral_at : List ℕ → ℕ → Option Reading
 numeral_at text at =
-    pick (ltb 0 (digits (drop at text)) && ltb (value_on 0 (drop at text)) (2 ^ 64))
-    (Number (value_on 0 (drop at text)) (at + digits (drop at text)))
-    Broken
+    then_some (ltb 0 (digits (drop at text)) && ltb (value_on 0 (drop at text)) (2 ^ 64))
+    (record { value = value_on 0 (drop at text); end = at + digits (drop at text) })
 
 -- a number that was read, or 0
-abbrev pub value_in : Reading → ℕ
-value_in (Number value end) = value
-value_in Broken = 0
+abbrev pub value_in : Option Reading → ℕ
+value_in (Some n) = n.value
+value_in None = 0
 
 -- how many bytes stand before the first newline, or the text's end
 unfoldable pub line_length : List ℕ → ℕ

@@ -1,8 +1,9 @@
 -- What the numbers of a vector stand for.
-use Rattle.std.specs.Prelude.{◌≡◌, Bool, true, cond, ◌&&◌, List, [], ◌∷◌, ℕ, ◌%◌, ◌^◌, ltb, Float, ℤ}
+use Rattle.std.specs.Prelude.{◌≡◌, Bool, true, cond, List, ℕ, ◌%◌, ◌^◌, ltb, Float, ℤ}
 use Rattle.std.specs.Float.{binary32}
 use Rattle.std.specs.Float.Ieee.{of_bits}
 use Rattle.std.specs.Int.{w32}
+use Rattle.std.specs.List.{list_all}
 use Rattle.std.proofs.Common.{to_z}
 
 -- the lower 32 bits
@@ -31,8 +32,7 @@ length_of x = cond (ltb 2048 x) 0 x
 
 -- each number is below a bound
 unfoldable pub all_under : List ℕ → ℕ → Bool
-all_under [] bound = true
-all_under (x ∷ v) bound = ltb x bound && all_under v bound
+all_under v bound = list_all (λ x. ltb x bound) v
 
 -- the answer of a test
 abbrev pub tells : Bool → Type 0 → Type 0

@@ -9,7 +9,7 @@ use crate::values::LONGEST;
 pub fn number(v: &[u64], i: usize) -> u64
     ensures { result ≡ get_or v.now i 0 }
 {
-    if i < v.len() { v[i] } else { 0 }
+    v.get(i).copied().unwrap_or(0)
 }
 
 pub fn word(v: &[u64], i: usize) -> u32

@@ -1,6 +1,6 @@
 // Lines of decimal numbers with single spaces between them.
-ghost use Rattle.std.specs.Prelude.{◌≡◌, ◌≤◌, ◌<◌, length, ltb};
-ghost use Rattle.vector_values.specs.Numerals.{digit_of, pick, numeral_at, value_in, line_end};
+ghost use Rattle.std.specs.Prelude.{◌≡◌, ◌≤◌, ◌<◌, length, MatchOption, IfSome};
+ghost use Rattle.vector_values.specs.Numerals.{digit_of, numeral_at, value_in, line_end};
 
 // The most numbers of a line.
 pub const MOST_NUMBERS: usize = 8192;
@@ -12,56 +12,39 @@ pub fn buffer() -> [u64; MOST_NUMBERS]
     [0; MOST_NUMBERS]
 }
 
-// A number and the place after it; broken where no digit stands, or the number does not fit.
+// A number and the place after it.
 #[derive(Clone, Copy)]
-pub enum Reading {
-    Number { value: u64, end: usize },
-    Broken,
+pub struct Reading {
+    pub value: u64,
+    pub end: usize,
 }
 
-// What a digit counts, or 10 for any other byte.
-fn digit(c: u8) -> u64
-    ensures { result ≡ digit_of c }
+// What a digit counts.
+#[tactic(auto, unfolding(crate::specs::Numerals::digit_of))]
+fn digit(c: u8) -> Option<u64>
+    ensures { MatchOption result (digit_of c ≡ 10) (λ d. (d ≡ digit_of c) × (d < 10)) }
 {
-    if c < b'0' {
-        return 10;
-    }
-    if b'9' < c {
-        return 10;
-    }
-    (c - b'0') as u64
-}
-
-// What was read, unless it is nothing.
-fn ended(from: usize, end: usize, value: u64) -> Reading
-    ensures { result ≡ pick (ltb from end) (Reading.Number value end) Reading.Broken }
-{
-    if from < end {
-        Reading::Number { value, end }
-    } else {
-        Reading::Broken
+    match c {
+        b'0'..=b'9' => Some(u64::from(c - b'0')),
+        _ => None,
     }
 }
 
-// The number whose digits begin at a place.
-fn numeral(text: &[u8], at: usize) -> Reading
+// The number whose digits begin at a place, unless no digit stands there or the number does not fit.
+fn numeral(text: &[u8], at: usize) -> Option<Reading>
     requires { at ≤ length text.now }
     ensures { result ≡ numeral_at text.now at }
 {
-    let mut i = at;
+    let mut end = at;
     let mut value = 0u64;
-    while i < text.len() {
-        let d = digit(text[i]);
-        if 9 < d {
-            return ended(at, i, value);
-        }
-        if (18446744073709551615 - d) / 10 < value {
-            return Reading::Broken;
-        }
-        value = value * 10 + d;
-        i += 1;
+    for c in &text[at..] {
+        let Some(d) = digit(*c) else {
+            break;
+        };
+        value = value.checked_mul(10)?.checked_add(d)?;
+        end += 1;
     }
-    ended(at, i, value)
+    (at < end).then_some(Reading { value, end })
 }
 
 // Where the line at a place ends: at a newline, or at the end of the text.
@@ -70,45 +53,37 @@ pub fn line_end(text: &[u8], at: usize) -> usize
     ensures value { result ≡ line_end text.now at }
     ensures lower_bound { (at ≤ result) × (result ≤ length text.now) }
 {
-    let mut i = at;
-    while i < text.len() {
+    // By its index: with `position` over the rest of the text the proof of `value` did not close.
+    for i in at..text.len() {
         if text[i] == b'\n' {
             return i;
         }
-        i += 1;
     }
-    i
+    text.len()
 }
 
 // The number that a line begins with, or 0.
 pub fn first(line: &[u8]) -> u64
     ensures { result ≡ value_in (numeral_at line.now 0) }
 {
-    match numeral(line, 0) {
-        Reading::Number { value, end: _ } => value,
-        Reading::Broken => 0,
-    }
+    numeral(line, 0).map_or(0, |n| n.value)
 }
 
-// Takes the numbers of a line, and answers how many there are, or 0 where the line is broken or too long.
-pub fn numbers(line: &[u8], out: &mut [u64]) -> usize
-    ensures { result ≤ length out.new }
+// Takes the numbers of a line, and answers how many there are, unless the line is broken or too long.
+pub fn numbers(line: &[u8], out: &mut [u64]) -> Option<usize>
+    ensures { IfSome result (λ n. n ≤ length out.new) }
 {
     let mut at = 0;
-    let mut count = 0;
-    while count < out.len() {
-        let Reading::Number { value, end } = numeral(line, at) else {
-            return 0;
-        };
-        out[count] = value;
-        count += 1;
+    for (i, place) in out.iter_mut().enumerate() {
+        let Reading { value, end } = numeral(line, at)?;
+        *place = value;
         if line.len() <= end {
-            return count;
+            return Some(i + 1);
         }
         if line[end] != b' ' {
-            return 0;
+            return None;
         }
         at = end + 1;
     }
-    0
+    None
 }

@@ -23,36 +23,26 @@ pub fn half(x: u64) -> u16
 pub fn signed(x: u64) -> i32
     ensures { result ≡ signed_of x }
 {
-    let w = word(x);
-    if w < 2147483648 {
-        return w as i32;
-    }
-    -1 - (4294967295 - w) as i32
+    word(x).cast_signed()
 }
 
-// The binary32 of a bit pattern. No bits make a NaN, so that a division does.
+// The binary32 of a bit pattern, where no bits make a NaN.
 pub fn float(x: u64) -> f32
     ensures { result ≡ float_of x }
 {
     let w = word(x);
     if 2139095040 < w % 2147483648 {
-        return 0.0 / 0.0;
+        return f32::NAN;
     }
     f32::from_bits(w)
 }
 
 // Whether each number is below a bound.
+#[tactic(auto, unfolding(crate::specs::Values::all_under))]
 pub fn all_under(v: &[u64], bound: u64) -> bool
     ensures { result ≡ all_under v.now bound }
 {
-    let mut i = 0;
-    while i < v.len() {
-        if bound <= v[i] {
-            return false;
-        }
-        i += 1;
-    }
-    true
+    v.iter().all(|x| *x < bound)
 }
 
 // The number of 8 bits.

@@ -1,11 +1,8 @@
 -- What was read and what is left make the whole number.
-use Prim.Native.Nat.{◌-◌}
-use lib.ListN.{length}
+use mathlib.Core.Path.{◌≡◌}
+use Prim.Native.Nat.{◌+◌}
 use Rattle.vector_values.proofs.Numerals.{Read}
 use Rattle.vector_values.proofs.text.numeral.Given as goal
 
-abbrev pub invariant-loop-i : goal.invariant-loop-i
-invariant-loop-i l = Read l.text l.at l.i l.value
-
-abbrev pub decreases-loop-i : goal.decreases-loop-i
-decreases-loop-i l = length l.text - l.i
+abbrev pub invariant-loop-c : goal.invariant-loop-c
+invariant-loop-c l = Read l.text l.at l.end l.value × (l.end ≡ l.at + l.c-index)

@@ -1,9 +1,0 @@
--- By the test, as the definition has it.
-use borrow.Author.Tests.{lt-ltb, le-ltb}
-use Rattle.vector_values.proofs.text.ended.Goals as goal
-
-pub returns-then-from-end : goal.returns-then-from-end
-returns-then-from-end c = rw (lt-ltb _ _ c.if-from-end.true)
-
-pub returns-else-from-end : goal.returns-else-from-end
-returns-else-from-end c = rw (le-ltb _ _ c.if-from-end.false)
