@@ -1,6 +1,6 @@
 // Where the lists of a vector lie: after the numbers in front come weights, list, bytes and other, one after the other.
-ghost use Rattle.std.specs.Prelude.{◌≡◌};
-ghost use Rattle.vector_parts.specs.Parts.{counted_at, changed_of, no_part, weights_part, next_part, list_part, bytes_part, other_part, PartWithin};
+ghost use Rattle.std.specs.Prelude.{◌≡◌, IfSome};
+ghost use Rattle.vector_parts.specs.Parts.{counted_at, changed_of, weights_part, next_part, list_part, bytes_part, other_part, PartWithin};
 
 use vector_values::values::LONGEST;
 
@@ -8,7 +8,6 @@ use vector_values::values::LONGEST;
 pub const HEAD: usize = 29;
 
 // A list of a vector: how many numbers it has, where they begin, before the call and after it, and where the next list begins.
-// A part that is not there ends at 0.
 #[derive(Clone, Copy)]
 pub struct Part {
     pub count: usize,
@@ -17,109 +16,77 @@ pub struct Part {
     pub end: usize,
 }
 
-fn none() -> Part
-    ensures { result ≡ no_part }
+// The count at a place, and as many numbers, which the call does not change.
+#[tactic(auto, unfolding(crate::specs::Parts::counted_at))]
+fn counted(v: &[u64], at: usize) -> Option<Part>
+    ensures value { result ≡ counted_at v.now at }
+    ensures part_within { IfSome result (PartWithin v.now) }
 {
-    Part {
-        count: 0,
-        before: 0,
-        after: 0,
-        end: 0,
-    }
-}
-
-// The count at a place, and as many numbers.
-fn counted(v: &[u64], at: usize) -> Part
-    ensures { result ≡ counted_at v.now at }
-{
-    if v.len() <= at {
-        return none();
-    }
-    if at == 0 {
-        return none();
-    }
-    let count = v[at] as usize;
-    if LONGEST < count {
-        return none();
-    }
+    let count = *v.get(at)? as usize;
     let before = at + 1;
-    if v.len() - before < count {
-        return none();
+    if LONGEST < count || v.len() - before < count {
+        return None;
     }
-    Part {
+    Some(Part {
         count,
         before,
         after: before,
         end: before + count,
-    }
+    })
 }
 
 // What stands after such a list: 0 where the call changes nothing, or 1 and the numbers afterwards.
-fn changed(v: &[u64], p: Part) -> Part
-    ensures { result ≡ changed_of v.now p }
+#[tactic(auto, unfolding(crate::specs::Parts::changed_of))]
+fn changed(v: &[u64], p: Part) -> Option<Part>
+    requires { PartWithin v.now p }
+    ensures value { result ≡ changed_of v.now p }
+    ensures part_within { IfSome result (PartWithin v.now) }
 {
-    let flag = p.end;
-    if v.len() <= flag {
-        return none();
-    }
-    if flag == 0 {
-        return none();
-    }
-    let after = flag + 1;
-    if v[flag] == 0 {
-        return Part {
-            count: p.count,
-            before: p.before,
-            after: p.before,
-            end: after,
-        };
-    }
-    if v[flag] != 1 {
-        return none();
-    }
-    if v.len() - after < p.count {
-        return none();
-    }
-    Part {
-        count: p.count,
-        before: p.before,
-        after,
-        end: after + p.count,
+    let flag = *v.get(p.end)?;
+    let after = p.end + 1;
+    match flag {
+        0 => Some(Part { end: after, ..p }),
+        1 if p.count <= v.len() - after => Some(Part {
+            after,
+            end: after + p.count,
+            ..p
+        }),
+        _ => None,
     }
 }
 
-pub fn weights(v: &[u64]) -> Part
+pub fn weights(v: &[u64]) -> Option<Part>
     ensures value { result ≡ weights_part v.now }
-    ensures part_within { PartWithin v.now result }
+    ensures part_within { IfSome result (PartWithin v.now) }
 {
     counted(v, HEAD)
 }
 
 // The list that begins where another ends.
-fn next(v: &[u64], p: Part) -> Part
+fn next(v: &[u64], p: Part) -> Option<Part>
     ensures value { result ≡ next_part v.now p }
-    ensures part_within { PartWithin v.now result }
+    ensures part_within { IfSome result (PartWithin v.now) }
 {
-    changed(v, counted(v, p.end))
+    changed(v, counted(v, p.end)?)
 }
 
-pub fn list(v: &[u64]) -> Part
+pub fn list(v: &[u64]) -> Option<Part>
     ensures value { result ≡ list_part v.now }
-    ensures part_within { PartWithin v.now result }
+    ensures part_within { IfSome result (PartWithin v.now) }
 {
-    next(v, weights(v))
+    next(v, weights(v)?)
 }
 
-pub fn bytes(v: &[u64]) -> Part
+pub fn bytes(v: &[u64]) -> Option<Part>
     ensures value { result ≡ bytes_part v.now }
-    ensures part_within { PartWithin v.now result }
+    ensures part_within { IfSome result (PartWithin v.now) }
 {
-    next(v, list(v))
+    next(v, list(v)?)
 }
 
-pub fn other(v: &[u64]) -> Part
+pub fn other(v: &[u64]) -> Option<Part>
     ensures value { result ≡ other_part v.now }
-    ensures part_within { PartWithin v.now result }
+    ensures part_within { IfSome result (PartWithin v.now) }
 {
-    next(v, bytes(v))
+    next(v, bytes(v)?)
 }
