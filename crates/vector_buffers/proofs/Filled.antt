@@ -1,22 +1,40 @@
--- A buffer that is filled by a rule for each place, as a list that the rule is mapped over.
-use mathlib.Core.Path.{◌≡◌, ◌∙◌, sym, ap}
+-- An array that is made by calls, as a list that a rule gives, for each place or for each element of another.
+use mathlib.Core.Path.{◌≡◌, ◌∙◌, sym, ap, subst}
 use mathlib.Core.List.{List, map}
-use Prim.Native.Nat.{ℕ, ◌≤◌}
+use Prim.Native.Nat.{ℕ, zero, suc, ◌+◌, ◌<◌}
+use native.Mathlib.Nat.{add-zero, zero-add}
+use native.Mathlib.Omega.{arith}
+use denote.Param.Members.{Mut}
+use Rattle.std.specs.Fn.{Called}
+use Rattle.std.specs.Array.{IsFromFnResult, IsFromFnResultFrom, IsMapOf}
 use lib.ListN.{length, get_or, length-map, get_or-map}
+use lib.Seq.{ext_get_or}
 use Rattle.picture.specs.Build.{build}
 use Rattle.picture.proofs.Build.{length_build, get_or-build}
-use Rattle.picture.proofs.Filled.{Filling, fills_all}
 
--- the rule takes the elements of a list
-abbrev pub Mapping : {A : Type 0} → (ℕ → A) → List ℕ → List A → List A → ℕ → Type 0
-Mapping f v = Filling (f 0) (λ k. f (get_or v k 0))
+-- calls that leave their closure as it is, and give what the rule says of each place
+each_made : {A F : Type 0} {g : Mut F (ℕ × Unit {0}) A} {s : F} (ys : List A) (d : A) (f : ℕ → A) → ((i : ℕ) (y : A) (q : F) → Called g s (i, tt) y q → (q ≡ s) × (y ≡ f i)) → (n i k : ℕ) → IsFromFnResultFrom g s ys i n → k < n → get_or ys (i + k) d ≡ f (i + k)
+each_made ys d f told zero i k made h = absurd (omega arith)
+each_made ys d f told (suc n) i zero (q, y, here, called, made) h = rw add-zero (here.1 d ∙ (told i y q called).1)
+each_made {F = F} {g} ys d f told (suc n) i (suc k) (q, y, here, called, made) h =
+    let next : i + suc k ≡ i + 1 + k = omega arith in
+    let same : IsFromFnResultFrom g _ ys (i + 1) n = subst (λ (p : F). IsFromFnResultFrom g p ys (i + 1) n) (told i y q called).0 made in
+    rw next (each_made ys d f told n (i + 1) k same (omega arith))
 
-pub fills_map : {A : Type 0} (f : ℕ → A) (v : List ℕ) {to₀ to : List A} {i : ℕ} → Mapping f v to₀ to i → length to₀ ≤ i → length to₀ ≡ length v → to ≡ map f v
-fills_map f v p e long = fills_all p (map f v) e (long ∙ sym (length-map v f)) (λ k h. sym (get_or-map f v k 0))
+pub made_build : {F : Type 0} {g : Mut F (ℕ × Unit {0}) ℕ} {s : F} {ys : List ℕ} {n : ℕ} (f : ℕ → ℕ) → ((i : ℕ) (y : ℕ) (q : F) → Called g s (i, tt) y q → (q ≡ s) × (y ≡ f i)) → IsFromFnResult g s ys n → ys ≡ build n f
+made_build {ys = ys} {n} f told made =
+    ext_get_or 0 ys (build n f) (made.long ∙ sym (length_build n f))
+    (λ k h. let l : k < n = rw made.long at h in rw zero-add at (each_made ys 0 f told n 0 k made.each l) ∙ sym (get_or-build n f k l))
 
 -- the rule takes the places themselves
-pub fills_places : {A : Type 0} {f : ℕ → A} {to₀ to : List A} {i : ℕ} → Filling (f 0) f to₀ to i → length to₀ ≤ i → to ≡ map f (build (length to₀) (λ k. k))
-fills_places {f = f} {to₀} p e =
-    let ks = build (length to₀) (λ k. k) in
-    fills_all p (map f ks) e (sym (length-map ks f ∙ length_build (length to₀) (λ k. k)))
-    (λ k h. ap f (sym (get_or-build (length to₀) (λ k. k) k h)) ∙ sym (get_or-map f ks k 0))
+pub made_places : {A F : Type 0} {g : Mut F (ℕ × Unit {0}) A} {s : F} {ys : List A} {n : ℕ} (f : ℕ → A) → ((i : ℕ) (y : A) (q : F) → Called g s (i, tt) y q → (q ≡ s) × (y ≡ f i)) → IsFromFnResult g s ys n → ys ≡ map f (build n (λ k. k))
+made_places {ys = ys} {n} f told made =
+    let ks = build n (λ k. k) in
+    ext_get_or (f 0) ys (map f ks) (made.long ∙ sym (length-map ks f ∙ length_build n (λ k. k)))
+    (λ k h. let l : k < n = rw made.long at h in rw zero-add at (each_made ys (f 0) f told n 0 k made.each l) ∙ ap f (sym (get_or-build n (λ k. k) k l)) ∙ sym (get_or-map f ks k 0))
+
+-- calls that give what the rule says of each element
+pub made_map : {X A F : Type 0} {g : Mut F (X × Unit {0}) A} {s : F} {xs : List X} {ys : List A} {n : ℕ} (d : X) (f : X → A) → n ≡ length xs → ((p q : F) (x : X) (y : A) → Called g p (x, tt) y q → y ≡ f x) → IsMapOf g s xs ys n → ys ≡ map f xs
+made_map {xs = xs} {ys} d f long told made =
+    ext_get_or (f d) ys (map f xs) (made.long ∙ long ∙ sym (length-map xs f))
+    (λ k h. let at = made.at k d (f d) (rw made.long at h) in told at.0 at.1 (get_or xs k d) (get_or ys k (f d)) at.2 ∙ sym (get_or-map f xs k d))

@@ -1,3 +1,2 @@
--- Laws of buffers that are filled, and of lists that are compared.
+-- Laws of arrays that are made by calls.
 pub mod Filled
-pub mod Pairs

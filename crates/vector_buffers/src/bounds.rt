@@ -17,12 +17,10 @@ pub fn range_under(v: &[u64], at: usize, n: usize, bound: u64) -> bool
 }
 
 // Whether the numbers of a list are below a bound, before the call and after it.
+#[tactic(auto, unfolding(crate::specs::Bounds::part_under))]
 pub fn part_under(v: &[u64], p: Part, bound: u64) -> bool
     requires { PartWithin v.now p }
     ensures { result ≡ part_under v.now p bound }
 {
-    if !range_under(v, p.before, p.count, bound) {
-        return false;
-    }
-    range_under(v, p.after, p.count, bound)
+    range_under(v, p.before, p.count, bound) && range_under(v, p.after, p.count, bound)
 }

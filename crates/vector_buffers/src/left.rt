@@ -7,10 +7,7 @@ use vector_values::values::LONGEST;
 
 // Whether the reply and the bytes are.
 pub fn bytes(v: &[u64], r: Reply, found: &[u8; LONGEST]) -> bool {
-    if !replies::stored(v, r) {
-        return false;
-    }
-    buffers::bytes_left(v, parts::bytes(v), found)
+    replies::stored(v, r) && parts::bytes(v).is_some_and(|p| buffers::bytes_left(v, p, found))
 }
 
 // Whether both work buffers are too.
@@ -21,11 +18,7 @@ pub fn work(
     scratch: &[u8; LONGEST],
     copy: &[u8; LONGEST],
 ) -> bool {
-    if !bytes(v, r, found) {
-        return false;
-    }
-    if !buffers::work_left(head::number(v, 23), scratch) {
-        return false;
-    }
-    buffers::work_left(head::number(v, 24), copy)
+    bytes(v, r, found)
+        && buffers::work_left(head::number(v, 23), scratch)
+        && buffers::work_left(head::number(v, 24), copy)
 }

@@ -1,5 +1,11 @@
--- What is compared with is the part's pairs afterwards.
+-- What is compared with is the part's points afterwards.
+use mathlib.Core.Path.{◌≡◌, refl}
+use Rattle.std.proofs.lemmas.Bool.Decides.{Decides-eqb}
+use Rattle.std.proofs.lemmas.Slice.Eq.{slice_eq-Decides}
+use Rattle.vector_values.specs.Values.{tells}
 use Rattle.vector_points.proofs.points_left.Goals as goal
 
 pub returns : goal.returns
-returns c = rw c.points_from-wanted.ensures.value at c.same_points.ensures
+returns c =
+    let told : tells c.eq.result (c.args.found.now ≡ c.points_from.result) = slice_eq-Decides (λ p q. slice_eq-Decides Decides-eqb p q _ refl) _ _ _ c.eq.ensures in
+    rw c.points_from.ensures.value at told

@@ -1,0 +1,10 @@
+-- One call for each place.
+use Rattle.std.proofs.Common.{rules, tests}
+use Rattle.vector_buffers.specs.Buffers.{number_at}
+use Rattle.vector_buffers.proofs.Filled.{made_build}
+use Rattle.vector_buffers.proofs.buffers.numbers_from.Goals as goal
+
+pub returns-clause-value : goal.returns-clause-value
+returns-clause-value c =
+    let s = c.args in
+    made_build (number_at s.v.now s.at s.n) (λ i y q k. search (rules, tests)) c.from_fn.ensures.items
