@@ -1,4 +1,5 @@
 // The blur in whole numbers alone, for C: a library for a reader without a float unit.
+// It says its contract a second time for the reason that corbelrush_c does: the C interface needs the function in this crate.
 #![tactic(auto)]
 
 ghost use Rattle.std.specs.Prelude.{◌≡◌};

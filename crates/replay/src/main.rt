@@ -2,12 +2,12 @@
 #![tactic(auto)]
 
 ghost use Rattle.std.specs.Prelude.{◌≡◌, length};
-ghost use Rattle.replay.specs.Counts.{OneMore};
 
 use vector_values::text;
 use vectors::agrees;
 
-// The standard streams.
+// The standard streams. They are read and written by `io`: std has no call that reads into an array up to the end of the input,
+// and its printing makes an error of a write that fails, after which this program goes on.
 const STDIN: i32 = 0;
 
 const STDOUT: i32 = 1;
@@ -15,79 +15,85 @@ const STDOUT: i32 = 1;
 // The most bytes that the program takes.
 const LONGEST: usize = 1048576;
 
-// How many vectors of an entry there are, how many of them agree, and the line of the first that does not, or 0.
+// The entries of the library in the order in which they are printed, with their numbers in the vectors.
+const ENTRIES: [(&str, u64); 28] = [
+    ("blur", 1),
+    ("shift", 2),
+    ("shadow", 3),
+    ("check", 4),
+    ("view", 5),
+    ("sample", 6),
+    ("spread", 7),
+    ("plate picture", 8),
+    ("plate job", 9),
+    ("plate start", 10),
+    ("plate add", 11),
+    ("plate label", 12),
+    ("image read", 13),
+    ("image written", 14),
+    ("mend", 15),
+    ("rebuild", 16),
+    ("whole-number blur", 17),
+    ("area build", 18),
+    ("area box", 19),
+    ("area update", 20),
+    ("share", 27),
+    ("share list", 28),
+    ("to planes", 21),
+    ("from planes", 22),
+    ("blur on planes", 23),
+    ("shift on planes", 24),
+    ("shadow on planes", 25),
+    ("list of recipes", 26),
+];
+
+// How many vectors of an entry there are, how many of them agree, and the line of the first that does not.
 #[derive(Clone, Copy)]
 struct Tally {
     seen: u64,
     agreed: u64,
-    first: u64,
+    first: Option<u64>,
 }
 
-// What a line adds to the counts of an entry. Entry 0 stands for every line, broken ones too.
-#[derive(Clone, Copy)]
-struct LineCount {
-    seen: u64,
-    agreed: u64,
-}
-
-fn judged(v: &[u64]) -> LineCount
-    ensures { OneMore result.seen result.agreed }
-{
-    if agrees(v) {
-        LineCount { seen: 1, agreed: 1 }
-    } else {
-        LineCount { seen: 1, agreed: 0 }
-    }
-}
-
-// A line of another entry is read no further than its first number.
-fn verdict(line: &[u8], entry: u64) -> LineCount
-    ensures { OneMore result.seen result.agreed }
-{
-    if entry != 0 {
-        if text::first(line) != entry {
-            return LineCount { seen: 0, agreed: 0 };
-        }
+// Whether a line's vector agrees, unless it is of another entry than the one that is asked for: such a line is read no further
+// than its first number. A line that is broken is a vector that does not agree.
+fn verdict(line: &[u8], entry: Option<u64>) -> Option<bool> {
+    if entry.is_some_and(|entry| text::first(line) != entry) {
+        return None;
     }
     let mut space = text::buffer();
-    let n = text::numbers(line, &mut space);
-    judged(&space[0..n])
+    Some(text::numbers(line, &mut space).is_some_and(|n| agrees(&space[..n])))
 }
 
-// The line of the first vector that disagrees, after one line more.
-fn first_after(first: u64, line: u64, s: LineCount) -> u64 {
-    if first == 0 {
-        if s.agreed < s.seen {
-            return line;
-        }
-    }
-    first
-}
-
-fn count(input: &[u8], entry: u64) -> Tally {
-    let mut seen = 0u64;
-    let mut agreed = 0u64;
-    let mut first = 0u64;
+// The vectors of an entry, or of all lines.
+fn count(input: &[u8], entry: Option<u64>) -> Tally {
+    let mut tally = Tally {
+        seen: 0,
+        agreed: 0,
+        first: None,
+    };
     let mut line = 0u64;
     let mut at = 0usize;
+
+    // A step is as long as its line.
     while at < input.len() {
         let end = text::line_end(input, at);
-        let s = verdict(&input[at..end], entry);
         line += 1;
-        seen += s.seen;
-        agreed += s.agreed;
-        first = first_after(first, line, s);
+        if let Some(agrees) = verdict(&input[at..end], entry) {
+            tally.seen += 1;
+            if agrees {
+                tally.agreed += 1;
+            } else if tally.first.is_none() {
+                tally.first = Some(line);
+            }
+        }
         at = end + 1;
     }
-    Tally {
-        seen,
-        agreed,
-        first,
-    }
+    tally
 }
 
-fn print_count(name: &[u8], c: Tally) {
-    io::write_all(STDOUT, name);
+fn print_count(name: &str, c: Tally) {
+    io::write_all(STDOUT, name.as_bytes());
     io::write_all(STDOUT, b" ");
     io::print_decimal(STDOUT, c.agreed);
     io::write_all(STDOUT, b" of ");
@@ -97,72 +103,19 @@ fn print_count(name: &[u8], c: Tally) {
 
 // Every line is counted anew for the totals, so that a line of no entry is in them.
 fn print_totals(c: Tally) {
-    if c.first != 0 {
+    if let Some(line) = c.first {
         io::write_all(STDOUT, b"first that disagrees: line ");
-        io::print_decimal(STDOUT, c.first);
+        io::print_decimal(STDOUT, line);
         io::write_all(STDOUT, b"\n");
     }
-    print_count(b"all", c);
-}
-
-fn report_filters(input: &[u8]) {
-    print_count(b"blur", count(input, 1));
-    print_count(b"shift", count(input, 2));
-    print_count(b"shadow", count(input, 3));
-}
-
-fn report_grades(input: &[u8]) {
-    print_count(b"check", count(input, 4));
-    print_count(b"view", count(input, 5));
-    print_count(b"sample", count(input, 6));
-    print_count(b"spread", count(input, 7));
-}
-
-fn report_plates(input: &[u8]) {
-    print_count(b"plate picture", count(input, 8));
-    print_count(b"plate job", count(input, 9));
-    print_count(b"plate start", count(input, 10));
-    print_count(b"plate add", count(input, 11));
-    print_count(b"plate label", count(input, 12));
-}
-
-fn report_images(input: &[u8]) {
-    print_count(b"image read", count(input, 13));
-    print_count(b"image written", count(input, 14));
-}
-
-fn report_mends(input: &[u8]) {
-    print_count(b"mend", count(input, 15));
-    print_count(b"rebuild", count(input, 16));
-}
-
-fn report_chains(input: &[u8]) {
-    print_count(b"to planes", count(input, 21));
-    print_count(b"from planes", count(input, 22));
-    print_count(b"blur on planes", count(input, 23));
-    print_count(b"shift on planes", count(input, 24));
-    print_count(b"shadow on planes", count(input, 25));
-    print_count(b"list of recipes", count(input, 26));
-}
-
-fn report_words(input: &[u8]) {
-    print_count(b"whole-number blur", count(input, 17));
-    print_count(b"area build", count(input, 18));
-    print_count(b"area box", count(input, 19));
-    print_count(b"area update", count(input, 20));
-    print_count(b"share", count(input, 27));
-    print_count(b"share list", count(input, 28));
+    print_count("all", c);
 }
 
 fn report(input: &[u8]) {
-    report_filters(input);
-    report_grades(input);
-    report_plates(input);
-    report_images(input);
-    report_mends(input);
-    report_words(input);
-    report_chains(input);
-    print_totals(count(input, 0));
+    for (name, entry) in ENTRIES {
+        print_count(name, count(input, Some(entry)));
+    }
+    print_totals(count(input, None));
 }
 
 // Room for one byte more than the program takes. Only its length is promised, as of `io::buffer`.

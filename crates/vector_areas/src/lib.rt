@@ -1,11 +1,13 @@
 // The functions that are lent a table of words.
 #![tactic(auto)]
 
+ghost use Rattle.vector_parts.specs.Parts.{PartWithin};
+
 use face_areas::areas;
 use vector_buffers::{bounds, buffers, left};
+use vector_parts::parts::Part;
 use vector_parts::replies::{Reply, UNSET};
 use vector_parts::{parts, replies};
-use vector_values::values::LONGEST;
 use vector_values::{head, values};
 use vector_words::words;
 
@@ -16,7 +18,7 @@ fn build(v: &[u64], picture: &[u8], table: &mut [u32]) -> Reply {
 }
 
 fn box_sum(v: &[u64], table: &[u32]) -> Reply {
-    let mut sum = UNSET as u64;
+    let mut sum = u64::from(UNSET);
     let number = areas::corbelrush_area_box(
         table,
         head::word(v, 1),
@@ -47,57 +49,33 @@ fn call(v: &[u64], picture: &[u8], table: &mut [u32]) -> Reply {
     }
 }
 
-// Whether the reply, the picture and the table are as the vector says.
-fn all_left(v: &[u64], r: Reply, picture: &[u8; LONGEST], table: &[u32; LONGEST]) -> bool {
-    if !left::bytes(v, r, picture) {
-        return false;
-    }
-    words::words_left(v, parts::list(v), table)
+// Whether a vector's alphas are bytes, and the sides of its box words.
+fn small(v: &[u64]) -> bool {
+    let words = |i| head::number(v, i) <= u64::from(u32::MAX);
+    let bytes = |i| head::number(v, i) <= u64::from(u8::MAX);
+    bytes(17) && bytes(18) && (head::number(v, 0) != 19 || words(20) && words(21))
 }
 
-// Whether the sides of a box are words.
-fn worded(v: &[u64]) -> bool {
-    if head::number(v, 0) != 19 {
-        return true;
-    }
-    if 4294967295 < head::number(v, 20) {
-        return false;
-    }
-    head::number(v, 21) < 4294967296
-}
-
-// Whether a vector's list is words, its alphas are bytes, its box has words for sides, and no work buffer and no other buffer is lent.
-fn tabled(v: &[u64]) -> bool {
-    if !replies::idle(v) {
-        return false;
-    }
-    let other = parts::other(v);
-    if other.count != 0 {
-        return false;
-    }
-    if 255 < head::number(v, 17) {
-        return false;
-    }
-    if 255 < head::number(v, 18) {
-        return false;
-    }
-    if !worded(v) {
-        return false;
-    }
-    bounds::part_under(v, parts::list(v), 4294967296)
+// Whether a vector's list is words, its other numbers are as the call takes them, and no work buffer and no other buffer is lent.
+fn tabled(v: &[u64], table: Part) -> bool
+    requires { PartWithin v.now table }
+{
+    replies::idle(v)
+        && parts::other(v).is_some_and(|other| other.count == 0)
+        && small(v)
+        && bounds::part_under(v, table, 1 << 32)
 }
 
 // Whether the call does what the vector says.
 pub fn agrees(v: &[u64]) -> bool {
-    if !tabled(v) {
+    let (Some(bytes), Some(numbers)) = (parts::bytes(v), parts::list(v)) else {
+        return false;
+    };
+    if !tabled(v, numbers) {
         return false;
     }
-    let bytes = parts::bytes(v);
-    let numbers = parts::list(v);
     let picture = buffers::bytes(v, bytes);
     let mut table = words::words(v, numbers);
-    let n = bytes.count;
-    let m = numbers.count;
-    let r = call(v, &picture[0..n], &mut table[0..m]);
-    all_left(v, r, &picture, &table)
+    let r = call(v, &picture[..bytes.count], &mut table[..numbers.count]);
+    left::bytes(v, r, &picture) && words::words_left(v, numbers, &table)
 }

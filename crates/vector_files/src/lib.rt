@@ -7,10 +7,9 @@ use vector_buffers::{buffers, left};
 use vector_parts::replies::{Reply, UNSET};
 use vector_parts::{parts, replies};
 use vector_values::head;
-use vector_values::values::LONGEST;
 
 fn plate_add(v: &[u64], buffer: &mut [u8], picture: &[u8]) -> Reply {
-    let mut after = UNSET as u64;
+    let mut after = u64::from(UNSET);
     let number = plates::corbelrush_plate_add(
         buffer,
         head::number(v, 19),
@@ -27,20 +26,20 @@ fn plate_add(v: &[u64], buffer: &mut [u8], picture: &[u8]) -> Reply {
 fn pam_read(picture: &mut [u8], file: &[u8]) -> Reply {
     let mut w = UNSET;
     let mut h = UNSET;
-    let mut written = UNSET as u64;
+    let mut written = u64::from(UNSET);
     let number = images::corbelrush_pam_read(file, picture, &mut w, &mut h, &mut written);
     Reply {
-        number,
-        first: w as u64,
-        second: h as u64,
+        number: u64::from(number),
+        first: u64::from(w),
+        second: u64::from(h),
         third: written,
         fourth: 0,
     }
 }
 
 fn pam_write(v: &[u64], picture: &[u8], file: &mut [u8]) -> Reply {
-    let mut written = UNSET as u64;
-    let mut place = UNSET as u64;
+    let mut written = u64::from(UNSET);
+    let mut place = u64::from(UNSET);
     let w = head::word(v, 1);
     let h = head::word(v, 2);
     let number = images::corbelrush_pam_write(picture, w, h, file, &mut written, &mut place);
@@ -69,32 +68,23 @@ fn call(v: &[u64], bytes: &mut [u8], other: &mut [u8]) -> Reply {
     }
 }
 
-// Whether the reply and both buffers are as the vector says.
-fn all_left(v: &[u64], r: Reply, bytes: &[u8; LONGEST], other: &[u8; LONGEST]) -> bool {
-    if !left::bytes(v, r, bytes) {
-        return false;
-    }
-    buffers::bytes_left(v, parts::other(v), other)
+// Whether a vector has no list and no sheet past 16 bits, and no work buffer is cleared.
+fn filed(v: &[u64]) -> bool {
+    replies::idle(v)
+        && parts::list(v).is_some_and(|list| list.count == 0)
+        && head::number(v, 18) <= u64::from(u16::MAX)
 }
 
-// Whether the call does what the vector says. No call takes a list, nor a sheet past 16 bits.
+// Whether the call does what the vector says.
 pub fn agrees(v: &[u64]) -> bool {
-    if !replies::idle(v) {
+    let (Some(first), Some(second)) = (parts::bytes(v), parts::other(v)) else {
+        return false;
+    };
+    if !filed(v) {
         return false;
     }
-    let list = parts::list(v);
-    if list.count != 0 {
-        return false;
-    }
-    if 65535 < head::number(v, 18) {
-        return false;
-    }
-    let first = parts::bytes(v);
-    let second = parts::other(v);
     let mut bytes = buffers::bytes(v, first);
     let mut other = buffers::bytes(v, second);
-    let n = first.count;
-    let m = second.count;
-    let r = call(v, &mut bytes[0..n], &mut other[0..m]);
-    all_left(v, r, &bytes, &other)
+    let r = call(v, &mut bytes[..first.count], &mut other[..second.count]);
+    left::bytes(v, r, &bytes) && buffers::bytes_left(v, second, &other)
 }

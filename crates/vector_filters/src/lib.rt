@@ -107,22 +107,19 @@ pub fn agrees(v: &[u64]) -> bool {
     if !replies::alone(v) {
         return false;
     }
-    let bytes = parts::bytes(v);
-    let kernel = parts::weights(v);
+    let (Some(bytes), Some(kernel)) = (parts::bytes(v), parts::weights(v)) else {
+        return false;
+    };
     let mut picture = buffers::bytes(v, bytes);
     let mut scratch = buffers::work(0);
     let mut copy = buffers::work(0);
     let weights = buffers::floats(v, kernel);
-    let n = bytes.count;
-    let taps = kernel.count;
-    let first = head::length(v, 15);
-    let second = head::length(v, 16);
     let r = call(
         v,
-        &mut picture[0..n],
-        &mut scratch[0..first],
-        &mut copy[0..second],
-        &weights[0..taps],
+        &mut picture[..bytes.count],
+        &mut scratch[..head::length(v, 15)],
+        &mut copy[..head::length(v, 16)],
+        &weights[..kernel.count],
     );
     left::work(v, r, &picture, &scratch, &copy)
 }

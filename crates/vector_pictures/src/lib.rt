@@ -30,11 +30,11 @@ fn shift_planes(v: &[u64], planes: &mut [u8]) -> Reply {
 
 fn check(v: &[u64], picture: &[u8]) -> Reply {
     let mut found = UNSET;
-    let mut place = UNSET as u64;
+    let mut place = u64::from(UNSET);
     let w = head::word(v, 1);
     let h = head::word(v, 2);
     let number = grades::corbelrush_check(picture, w, h, &mut found, &mut place);
-    replies::two(number, found as u64, place)
+    replies::two(number, u64::from(found), place)
 }
 
 fn view(v: &[u64], picture: &[u8]) -> Reply {
@@ -56,8 +56,8 @@ fn sample(v: &[u64], picture: &[u8]) -> Reply {
 fn plate_picture(v: &[u64], plate: &[u8]) -> Reply {
     let mut w = UNSET;
     let mut h = UNSET;
-    let mut offset = UNSET as u64;
-    let mut length = UNSET as u64;
+    let mut offset = u64::from(UNSET);
+    let mut length = u64::from(UNSET);
     let index = head::word(v, 13);
     let number = plates::corbelrush_plate_picture(
         plate,
@@ -68,16 +68,16 @@ fn plate_picture(v: &[u64], plate: &[u8]) -> Reply {
         &mut length,
     );
     Reply {
-        number,
-        first: w as u64,
-        second: h as u64,
+        number: u64::from(number),
+        first: u64::from(w),
+        second: u64::from(h),
         third: offset,
         fourth: length,
     }
 }
 
 fn plate_start(v: &[u64], buffer: &mut [u8]) -> Reply {
-    let mut used = UNSET as u64;
+    let mut used = u64::from(UNSET);
     let version = head::word(v, 17);
     let number = plates::corbelrush_plate_start(buffer, version, &mut used);
     replies::two(number, used, 0)
@@ -88,7 +88,7 @@ fn plate_label(v: &[u64], plate: &[u8]) -> Reply {
     let mut sheet = UNSET_SHEET;
     let index = head::word(v, 13);
     let number = plates::corbelrush_plate_label(plate, index, &mut unit, &mut sheet);
-    replies::two(number, unit as u64, sheet as u64)
+    replies::two(number, u64::from(unit), u64::from(sheet))
 }
 
 fn call(v: &[u64], picture: &mut [u8]) -> Reply {
@@ -106,15 +106,13 @@ fn call(v: &[u64], picture: &mut [u8]) -> Reply {
 
 // Whether the call does what the vector says.
 pub fn agrees(v: &[u64]) -> bool {
-    if !replies::alone(v) {
+    if !replies::alone(v) || !replies::idle(v) {
         return false;
     }
-    if !replies::idle(v) {
+    let Some(bytes) = parts::bytes(v) else {
         return false;
-    }
-    let bytes = parts::bytes(v);
-    let n = bytes.count;
+    };
     let mut picture = buffers::bytes(v, bytes);
-    let r = call(v, &mut picture[0..n]);
+    let r = call(v, &mut picture[..bytes.count]);
     left::bytes(v, r, &picture)
 }

@@ -3,10 +3,13 @@
 
 ghost use Rattle.std.specs.Prelude.{◌≡◌, ◌≤◌};
 ghost use Rattle.picture.specs.Answer.{answered, lent_copy};
+ghost use Rattle.vector_parts.specs.Parts.{PartWithin};
 ghost use Rattle.recipes.specs.Chain.{chain_left, chain_outcome};
 
 use recipe_checks::Step;
+use std::array;
 use vector_buffers::{bounds, buffers, left};
+use vector_parts::parts::Part;
 use vector_parts::replies::{Reply, UNSET};
 use vector_parts::{parts, replies};
 use vector_values::head;
@@ -33,16 +36,7 @@ fn step_in(words: &[u64], at: usize) -> Step
 }
 
 fn eight(words: &[u64]) -> [Step; 8] {
-    [
-        step_in(words, 0),
-        step_in(words, 13),
-        step_in(words, 26),
-        step_in(words, 39),
-        step_in(words, 52),
-        step_in(words, 65),
-        step_in(words, 78),
-        step_in(words, 91),
-    ]
+    array::from_fn(|i| step_in(words, 13 * i))
 }
 
 // The call itself, with the array lent whole.
@@ -69,7 +63,7 @@ fn call(
     copy: &mut [u8],
     table: &[f32],
 ) -> Reply {
-    let mut index = UNSET as u64;
+    let mut index = u64::from(UNSET);
     let w = head::word(v, 1);
     let h = head::word(v, 2);
     let number = lent(picture, w, h, scratch, copy, steps, table, &mut index);
@@ -77,45 +71,45 @@ fn call(
 }
 
 // Whether a vector's list is eight recipes of words, which stay, and no other buffer is lent.
-fn listed(v: &[u64]) -> bool {
-    let other = parts::other(v);
-    if other.count != 0 {
-        return false;
-    }
-    let list = parts::list(v);
-    if list.count != 104 {
-        return false;
-    }
-    if list.after != list.before {
-        return false;
-    }
-    bounds::part_under(v, list, 4294967296)
+fn listed(v: &[u64], list: Part) -> bool
+    requires { PartWithin v.now list }
+{
+    parts::other(v).is_some_and(|other| other.count == 0)
+        && list.count == 104
+        && list.after == list.before
+        && bounds::part_under(v, list, 1 << 32)
 }
 
-// Whether the call does what the vector says.
-pub fn agrees(v: &[u64]) -> bool {
-    if !listed(v) {
-        return false;
-    }
-    let list = parts::list(v);
-    let bytes = parts::bytes(v);
-    let kernels = parts::weights(v);
+// The call that a vector says, whose recipes are a part of it, and whether it does what the vector says.
+fn called(v: &[u64], list: Part, bytes: Part, kernels: Part) -> bool
+    requires list_within { PartWithin v.now list }
+    requires bytes_within { PartWithin v.now bytes }
+    requires kernels_within { PartWithin v.now kernels }
+{
     let words = buffers::numbers_from(v, list.before, list.count);
     let mut picture = buffers::bytes(v, bytes);
     let mut scratch = buffers::work(0);
     let mut copy = buffers::work(0);
     let table = buffers::floats(v, kernels);
-    let n = bytes.count;
-    let m = kernels.count;
-    let first = head::length(v, 15);
-    let second = head::length(v, 16);
     let r = call(
         v,
         eight(&words),
-        &mut picture[0..n],
-        &mut scratch[0..first],
-        &mut copy[0..second],
-        &table[0..m],
+        &mut picture[..bytes.count],
+        &mut scratch[..head::length(v, 15)],
+        &mut copy[..head::length(v, 16)],
+        &table[..kernels.count],
     );
     left::work(v, r, &picture, &scratch, &copy)
+}
+
+// Whether the call does what the vector says.
+pub fn agrees(v: &[u64]) -> bool {
+    let (Some(list), Some(bytes), Some(kernels)) = (
+        parts::list(v),
+        parts::bytes(v),
+        parts::weights(v),
+    ) else {
+        return false;
+    };
+    listed(v, list) && called(v, list, bytes, kernels)
 }

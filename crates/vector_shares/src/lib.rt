@@ -4,12 +4,11 @@
 use face_shares::explains;
 use vector_parts::replies::{Reply, UNSET};
 use vector_parts::{parts, replies};
-use vector_points::MOST_POINTS;
 use vector_values::head;
 use vector_words::words;
 
 fn share(v: &[u64], numerators: &[u32]) -> Reply {
-    let mut found = UNSET as u64;
+    let mut found = u64::from(UNSET);
     let number = explains::corbelrush_share(
         head::word(v, 1),
         head::word(v, 2),
@@ -24,7 +23,7 @@ fn share(v: &[u64], numerators: &[u32]) -> Reply {
 }
 
 fn shares(v: &[u64], numerators: &[u32], list: &mut [[u64; 2]]) -> Reply {
-    let mut count = UNSET as u64;
+    let mut count = u64::from(UNSET);
     let number = explains::corbelrush_shares(
         head::word(v, 1),
         head::word(v, 2),
@@ -45,42 +44,27 @@ fn call(v: &[u64], numerators: &[u32], list: &mut [[u64; 2]]) -> Reply {
     }
 }
 
-// Whether the reply and the list are as the vector says.
-fn left(v: &[u64], r: Reply, list: &[[u64; 2]; MOST_POINTS]) -> bool {
-    if !replies::stored(v, r) {
-        return false;
-    }
-    vector_points::points_left(v, parts::list(v), list)
+// Whether no work buffer and no buffer of bytes is lent.
+fn bare(v: &[u64]) -> bool {
+    replies::idle(v)
+        && parts::bytes(v).is_some_and(|bytes| bytes.count == 0)
+        && parts::other(v).is_some_and(|other| other.count == 0)
 }
 
-// Whether a vector's list is pairs, and no buffer of bytes is lent.
-fn pointed(v: &[u64]) -> bool {
-    if !replies::idle(v) {
-        return false;
-    }
-    let other = parts::other(v);
-    if other.count != 0 {
-        return false;
-    }
-    let bytes = parts::bytes(v);
-    if bytes.count != 0 {
-        return false;
-    }
-    let list = parts::list(v);
-    list.count % 2 == 0
-}
-
-// Whether the call does what the vector says.
+// Whether the call does what the vector says, whose list is pairs.
 pub fn agrees(v: &[u64]) -> bool {
-    if !pointed(v) {
+    let (Some(kernel), Some(points)) = (parts::weights(v), parts::list(v)) else {
+        return false;
+    };
+    if !bare(v) || points.count % 2 != 0 {
         return false;
     }
-    let kernel = parts::weights(v);
-    let points = parts::list(v);
     let numerators = words::words(v, kernel);
     let mut list = vector_points::points(v, points);
-    let taps = kernel.count;
-    let m = points.count / 2;
-    let r = call(v, &numerators[0..taps], &mut list[0..m]);
-    left(v, r, &list)
+    let r = call(
+        v,
+        &numerators[..kernel.count],
+        &mut list[..points.count / 2],
+    );
+    replies::stored(v, r) && vector_points::points_left(v, points, &list)
 }

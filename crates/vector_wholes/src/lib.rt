@@ -6,7 +6,6 @@ use vector_buffers::{buffers, left};
 use vector_parts::replies::Reply;
 use vector_parts::{parts, replies};
 use vector_values::head;
-use vector_values::values::LONGEST;
 use vector_words::words;
 
 fn call(v: &[u64], picture: &mut [u8], scratch: &mut [u8], numerators: &[u32]) -> Reply {
@@ -17,35 +16,22 @@ fn call(v: &[u64], picture: &mut [u8], scratch: &mut [u8], numerators: &[u32]) -
     replies::plain(wholes::corbelrush_blur_whole(picture, w, h, scratch, numerators, n, edge))
 }
 
-// Whether the reply and the lent buffers are as the vector says, which clears no second work buffer.
-fn all_left(v: &[u64], r: Reply, picture: &[u8; LONGEST], scratch: &[u8; LONGEST]) -> bool {
-    if !left::bytes(v, r, picture) {
-        return false;
-    }
-    if head::number(v, 24) != 0 {
-        return false;
-    }
-    buffers::work_left(head::number(v, 23), scratch)
-}
-
-// Whether the call does what the vector says.
+// Whether the call does what the vector says, which clears no second work buffer.
 pub fn agrees(v: &[u64]) -> bool {
-    if !replies::alone(v) {
+    let (Some(bytes), Some(kernel)) = (parts::bytes(v), parts::weights(v)) else {
+        return false;
+    };
+    if !replies::alone(v) || head::number(v, 24) != 0 {
         return false;
     }
-    let bytes = parts::bytes(v);
-    let kernel = parts::weights(v);
     let mut picture = buffers::bytes(v, bytes);
     let mut scratch = buffers::work(0);
     let numerators = words::words(v, kernel);
-    let n = bytes.count;
-    let taps = kernel.count;
-    let room = head::length(v, 15);
     let r = call(
         v,
-        &mut picture[0..n],
-        &mut scratch[0..room],
-        &numerators[0..taps],
+        &mut picture[..bytes.count],
+        &mut scratch[..head::length(v, 15)],
+        &numerators[..kernel.count],
     );
-    all_left(v, r, &picture, &scratch)
+    left::bytes(v, r, &picture) && buffers::work_left(head::number(v, 23), &scratch)
 }

@@ -6,7 +6,7 @@ use vector_parts::{parts, replies};
 use vector_values::head;
 
 fn spread(v: &[u64], weights: &[f32]) -> Reply {
-    let mut found = UNSET as u64;
+    let mut found = u64::from(UNSET);
     let n = head::word(v, 3);
     let number = grades::corbelrush_spread(weights, n, &mut found);
     replies::two(number, found, 0)
@@ -14,14 +14,11 @@ fn spread(v: &[u64], weights: &[f32]) -> Reply {
 
 // Whether the call does what the vector says.
 pub fn agrees(v: &[u64]) -> bool {
-    if !replies::alone(v) {
+    if !replies::alone(v) || !replies::idle(v) {
         return false;
     }
-    if !replies::idle(v) {
-        return false;
-    }
-    let kernel = parts::weights(v);
-    let taps = kernel.count;
-    let weights = buffers::floats(v, kernel);
-    replies::stored(v, spread(v, &weights[0..taps]))
+    parts::weights(v).is_some_and(|kernel| {
+        let weights = buffers::floats(v, kernel);
+        replies::stored(v, spread(v, &weights[..kernel.count]))
+    })
 }

@@ -12,6 +12,8 @@ pub fn agrees(v: &[u64]) -> bool {
     if !shape::whole(v) {
         return false;
     }
+
+    // The numbers stand in the stored vectors: a type for them would need this table, and one more that makes it of a number.
     match head::number(v, 0) {
         1 | 3 | 9 | 23 | 25 => vector_filters::agrees(v),
         2 | 4..=6 | 8 | 10 | 12 | 24 => vector_pictures::agrees(v),

@@ -4,7 +4,7 @@ use lib.ListN.{length}
 use Rattle.replay.proofs.count.Given as goal
 
 abbrev pub invariant-loop-at : goal.invariant-loop-at
-invariant-loop-at l = (l.at ≤ length l.input + 1) × (l.line ≤ l.at) × (l.seen ≤ l.line) × (l.agreed ≤ l.seen)
+invariant-loop-at l = (l.at ≤ length l.input + 1) × (l.line ≤ l.at) × (l.tally.seen ≤ l.line) × (l.tally.agreed ≤ l.tally.seen)
 
 abbrev pub decreases-loop-at : goal.decreases-loop-at
 decreases-loop-at l = length l.input + 1 - l.at

@@ -1,2 +1,0 @@
--- What a line can add to a count.
-pub mod Counts
