@@ -1,4 +1,4 @@
-use Rattle.std.proofs.Common.{◌+◌, ◌/◌, ◌%◌, refl, arith}
+use Rattle.std.proofs.Common.{◌+◌, ◌/◌, ◌%◌, arith}
 use Rattle.picture.proofs.Spans.{span_none, span_join, span_element, span_at}
 use Rattle.area.specs.Area.{alpha_plane, entry, built}
 use Rattle.area.proofs.Entries.{rows_in, row_ends, corner_is}

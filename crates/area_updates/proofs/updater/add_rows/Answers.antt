@@ -1,4 +1,4 @@
-use Rattle.std.proofs.Common.{◌≡◌, ◌+◌, ◌*◌, ◌<◌, ◌≤◌, length, arith}
+use Rattle.std.proofs.Common.{◌+◌, ◌*◌, ◌<◌, ◌≤◌, length, arith}
 use Rattle.area.specs.Area.{gained}
 use Rattle.area.proofs.Entries.{rows_in, row_ends}
 use Rattle.area_updates.proofs.Gains.{rows_above, row_gains}
