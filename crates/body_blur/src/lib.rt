@@ -13,7 +13,8 @@ fn blur_part(part: &mut [u8], w: u32, h: u32, scratch: &mut [u8])
     ensures { lent part.new scratch.new ≡ lent (plate_blur w h part.old) (cleared (bytes_of w h) scratch.old) }
 {
     let weights = [0.25, 0.5, 0.25];
-    gaussian_blur::blur(part, w, h, scratch, &weights, 1, 1.0, 0);
+    // No refusal fits a body that does.
+    let _ = gaussian_blur::blur(part, w, h, scratch, &weights, 1, 1.0, 0);
 }
 
 // Blurs body i where it lies, from this start on, and answers where it ends.

@@ -3,12 +3,15 @@ use mathlib.Core.Path.{◌≡◌, refl, ap}
 use mathlib.Core.Bool.{Bool, true, false}
 use mathlib.Core.List.{List}
 use Prim.Native.Nat.{ℕ, ◌<◌}
+use Rattle.std.proofs.Common.{Result}
 use contract.Lifetimes.{Lfts}
 use borrow.Fn.Kinds.{Dens, ended_of}
 use denote.Triple.Clauses.{AtExit}
 use lib.Dec.{eqb}
 use borrow.Author.Tests.{eqb-true, eqb-false}
 use Rattle.picture.specs.Answer.{answered, Lent, lent}
+use Rattle.picture.specs.Refusal.{number_of}
+use Rattle.picture.specs.declared.checks.Refusal.{Refusal}
 use Rattle.picture.proofs.Settled.{read}
 use Rattle.plate_numbers.specs.Numbers.{count}
 use Rattle.plate_format.specs.Format.{entry_of, is_plate}
@@ -32,8 +35,8 @@ left_entry file scratch r left e plate i l = by (eqb r 0) refl
     by true z = rw (ap (λ (x : Lent). x.picture) ((read _ _ _ r left e).finished (eqb-true r 0 z))) (jobbed_entry file plate i l)
     by false z = rw (ap (λ (x : Lent). x.picture) ((read _ _ _ r left e).unchanged (eqb-false r 0 z)))
 
-pub labels_kept : (κs : Lfts 2) (a : Dens κs kinds.ps) (r : ℕ) (left : AtExit (ended_of 2 kinds.ps kinds.r) κs) → job.Post κs a r left →
+pub labels_kept : (κs : Lfts 2) (a : Dens κs kinds.ps) (r : Result Unit Refusal) (left : AtExit (ended_of 2 kinds.ps kinds.r) κs) → job.Post κs a r left →
     let file = a.0.now in
     let after = left.0.now in
     is_plate file ≡ true → (i : ℕ) → i < count file → ((entry_of after i).unit ≡ (entry_of file i).unit) × ((entry_of after i).sheet ≡ (entry_of file i).sheet)
-labels_kept κs a r left post plate i l = rw (left_entry _ _ r (lent left.0.now left.1.0.now) post plate i l) (refl, refl)
+labels_kept κs a r left post plate i l = rw (left_entry _ _ (number_of r) (lent left.0.now left.1.0.now) post plate i l) (refl, refl)

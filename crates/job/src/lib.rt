@@ -6,12 +6,13 @@ mod longest;
 ghost use Rattle.std.specs.Prelude.{◌≡◌, true, ◌≤◌, length};
 ghost use Rattle.picture.specs.Planes.{cleared};
 ghost use Rattle.picture.specs.Answer.{answered, lent};
+ghost use Rattle.picture.specs.Refusal.{number_of};
 ghost use Rattle.plate_format.specs.Format.{is_plate};
 ghost use Rattle.body_blur.specs.Blur.{plate_blur};
 ghost use Rattle.job.specs.Job.{longest_body, jobbed, job_outcome};
 
 use crate::longest::longest_body;
-use picture::{BROKEN_PLATE, TOO_SHORT};
+use picture::{Refusal, refuse_if};
 
 // Blurs every body in table order: there are no gaps, so each starts where the one before it ends.
 fn blur_bodies(plate: &mut [u8], scratch: &mut [u8])
@@ -26,15 +27,11 @@ fn blur_bodies(plate: &mut [u8], scratch: &mut [u8])
 }
 
 // The plate job: each body blurred where it lies, the used part of the scratch zero; or the refusal.
-pub fn plate_job(plate: &mut [u8], scratch: &mut [u8]) -> u32
-    ensures { answered result (lent plate.new scratch.new) ≡ job_outcome plate_blur plate.old scratch.old }
+pub fn plate_job(plate: &mut [u8], scratch: &mut [u8]) -> Result<(), Refusal>
+    ensures { answered (number_of result) (lent plate.new scratch.new) ≡ job_outcome plate_blur plate.old scratch.old }
 {
-    if !plate_format::is_plate(plate) {
-        return BROKEN_PLATE;
-    }
-    if scratch.len() < longest_body(plate) {
-        return TOO_SHORT;
-    }
+    refuse_if(!plate_format::is_plate(plate), Refusal::BrokenPlate)?;
+    refuse_if(scratch.len() < longest_body(plate), Refusal::TooShort)?;
     blur_bodies(plate, scratch);
-    0
+    Ok(())
 }

@@ -8,6 +8,8 @@ use borrow.Author.Tests.{le-ltb}
 use contract.Lifetimes.{Lfts}
 use borrow.Fn.Kinds.{Dens, ended_of}
 use denote.Triple.Clauses.{AtExit}
+use Rattle.std.proofs.Common.{Result, Ok}
+use Rattle.picture.specs.declared.checks.Refusal.{Refusal}
 use Rattle.picture.specs.Answer.{answered, settled}
 use Rattle.picture.specs.Planes.{bytes_of, laid}
 use Rattle.picture.specs.Refusal.{first_else, first_of, too_short}
@@ -24,10 +26,7 @@ use Rattle.pam_convert.specs.Straight.{imported, exported}
 use Rattle.pam.specs.Needs.{Passed}
 use Rattle.pam.specs.Import.{pixels_in, import_outcome, import_answer}
 use Rattle.pam.specs.Export.{file_of}
-use Rattle.pam.specs.declared.reading.Imported.{Imported}
-use Rattle.pam.specs.declared.reading.Imported.TheVariants as import
-use Rattle.pam.specs.declared.writing.Exported.{Exported}
-use Rattle.pam.specs.declared.writing.Exported.TheVariants as export
+use Rattle.pam.specs.declared.writing.Unwritten.{Unwritten}
 use Rattle.pam.proofs.Taken.{was_read}
 use Rattle.pam_convert.proofs.Channels.{Bytes, there_and_back, passes_inward}
 use Rattle.pam.proofs.Determined.{import_once, export_once}
@@ -49,7 +48,7 @@ module _ (w h : ℕ) (picture : List ℕ) where
     is_pam_lem = record { sides = t.sides; body = exported w h picture; exact = length_recoloured outward w h picture; spelt = refl }
 
     -- what reading it comes to
-    read_back : (p : List ℕ) → Bytes picture → bytes_of w h ≤ length p → import_answer (import.Read (full_size w h)) (laid picture p) ≡ import_outcome (file_of w h picture) p
+    read_back : (p : List ℕ) → Bytes picture → bytes_of w h ≤ length p → import_answer (Ok (full_size w h)) (laid picture p) ≡ import_outcome (file_of w h picture) p
     read_back p bytes room =
         let f = file_of w h picture in
         let told = (pam_is f).1 w h is_pam_lem in
@@ -58,7 +57,7 @@ module _ (w h : ℕ) (picture : List ℕ) where
         let body : pixels_in f w h ≡ exported w h picture = drop-append_seam (header w h) (exported w h picture) in
         let same : imported (width_in f) (height_in f) (pixels_in f (width_in f) (height_in f)) ≡ picture =
         ap₂ (λ (x y : ℕ). imported x y (pixels_in f x y)) w-is h-is ∙ ap (imported w h) body ∙ there_and_back w h picture bytes ((right_length (length picture) w h).0 t.exact) t.scan in
-        ap₂ (λ (x y : ℕ). import_answer (import.Read (full_size x y)) (laid picture p)) (sym w-is) (sym h-is)
+        ap₂ (λ (x y : ℕ). import_answer (Ok (full_size x y)) (laid picture p)) (sym w-is) (sym h-is)
         ∙ read_in_lem f p told.0 (ap₂ (too_short (length p)) w-is h-is ∙ (long_enough (length p) w h).1 room) (laid picture p) (ap (λ (q : List ℕ). laid q p) (sym same))
 
 -- the stretch of the lent file that was written
@@ -67,15 +66,15 @@ unfolding laid
 front new old n e = take_at new (drop (length new) old) n e
 
 -- out and in again: the file's stretch that was written, read into any picture with room
-pub survives : (κs₁ : Lfts 2) (a₁ : Dens κs₁ write-kinds.ps) (r₁ : Exported) (x₁ : AtExit (ended_of 2 write-kinds.ps write-kinds.r) κs₁) →
-    (κs₂ : Lfts 2) (a₂ : Dens κs₂ read-kinds.ps) (r₂ : Imported) (x₂ : AtExit (ended_of 2 read-kinds.ps read-kinds.r) κs₂) →
+pub survives : (κs₁ : Lfts 2) (a₁ : Dens κs₁ write-kinds.ps) (r₁ : Result ℕ Unwritten) (x₁ : AtExit (ended_of 2 write-kinds.ps write-kinds.r) κs₁) →
+    (κs₂ : Lfts 2) (a₂ : Dens κs₂ read-kinds.ps) (r₂ : Result FullSize Refusal) (x₂ : AtExit (ended_of 2 read-kinds.ps read-kinds.r) κs₂) →
     write.Post κs₁ a₁ r₁ x₁ → read.Post κs₂ a₂ r₂ x₂ →
     let picture = a₁.0.now in
     let w = a₁.1.0 in
     let h = a₁.1.1.0 in
     Bytes picture → answered 0 none ≡ checked picture w h → file_length w h ≤ length a₁.1.1.1.0.now →
     a₂.0.now ≡ take (file_length w h) x₁.1.1.1.0.now → bytes_of w h ≤ length a₂.1.0.now →
-    (r₁ ≡ export.Written (file_length w h)) × (r₂ ≡ import.Read (full_size w h)) × (x₂.1.0.now ≡ laid picture a₂.1.0.now)
+    (r₁ ≡ Ok (file_length w h)) × (r₂ ≡ Ok (full_size w h)) × (x₂.1.0.now ≡ laid picture a₂.1.0.now)
 survives κs₁ a₁ r₁ x₁ κs₂ a₂ r₂ x₂ h₁ h₂ bytes check room lent enough =
     let picture = a₁.0.now in
     let w = a₁.1.0 in
@@ -89,14 +88,14 @@ survives κs₁ a₁ r₁ x₁ κs₂ a₂ r₂ x₂ h₁ h₂ bytes check room 
     (out.0, back.0, back.1)
 
 -- what was read passes the check
-pub read_passes : (κs : Lfts 2) (a : Dens κs read-kinds.ps) (r : Imported) (x : AtExit (ended_of 2 read-kinds.ps read-kinds.r) κs) → read.Post κs a r x →
-    (size : FullSize) → r ≡ import.Read size → Bytes a.0.now → checked (take (bytes_of size.w size.h) x.1.0.now) size.w size.h ≡ answered 0 none
+pub read_passes : (κs : Lfts 2) (a : Dens κs read-kinds.ps) (r : Result FullSize Refusal) (x : AtExit (ended_of 2 read-kinds.ps read-kinds.r) κs) → read.Post κs a r x →
+    (size : FullSize) → r ≡ Ok size → Bytes a.0.now → checked (take (bytes_of size.w size.h) x.1.0.now) size.w size.h ≡ answered 0 none
 unfolding checked settled first_of first_else
 read_passes κs a r x e size is bytes =
     let file = a.0.now in
     let w = size.w in
     let h = size.h in
-    let t = was_read file a.1.0.now size x.1.0.now (ap (λ (r : Imported). import_answer r x.1.0.now) (sym is) ∙ e) in
+    let t = was_read file a.1.0.now size x.1.0.now (ap (λ (r : Result FullSize Refusal). import_answer r x.1.0.now) (sym is) ∙ e) in
     let body = pixels_in file w h in
     let exact = length_recoloured premultiply w h body in
     let read : take (bytes_of w h) x.1.0.now ≡ imported w h body = ap (take (bytes_of w h)) t.left ∙ front (imported w h body) a.1.0.now (bytes_of w h) exact in

@@ -5,6 +5,7 @@ use Prim.Native.Nat.{ℕ, ◌≤◌}
 use native.Mathlib.Omega.{arith}
 use lib.ListN.{length}
 use borrow.Author.Tests.{not-false}
+use Rattle.std.proofs.Common.{Ok}
 use Rattle.picture.specs.Planes.{bytes_of, laid}
 use Rattle.picture.specs.declared.FullSize.{FullSize}
 use Rattle.picture.proofs.Answers.{accepted}
@@ -15,7 +16,6 @@ use Rattle.pam_format.specs.Format.{width_in, height_in, is_pam, Pam}
 use Rattle.pam_format.proofs.Files.{pam_is}
 use Rattle.pam_convert.specs.Straight.{imported}
 use Rattle.pam.specs.Import.{PictureRead, pixels_in, import_outcome, import_answer}
-use Rattle.pam.specs.declared.reading.Imported.TheVariants.{Read}
 
 -- a file that was read: it is a PAM file of these sides, there was room, and its body came inward to the front of the picture
 pub record ReadIn (file picture : List ℕ) (w h : ℕ) (new : List ℕ) : Type 0 where
@@ -23,7 +23,7 @@ pub record ReadIn (file picture : List ℕ) (w h : ℕ) (new : List ℕ) : Type 
   pub room : bytes_of w h ≤ length picture
   pub left : new ≡ laid (imported w h (pixels_in file w h)) picture
 
-module _ (file picture : List ℕ) (size : FullSize) (new : List ℕ) (e : import_answer (Read size) new ≡ import_outcome file picture) where
+module _ (file picture : List ℕ) (size : FullSize) (new : List ℕ) (e : import_answer (Ok size) new ≡ import_outcome file picture) where
   pub was_read : ReadIn file picture size.w size.h new
   unfolding import_outcome
   was_read =

@@ -1,14 +1,14 @@
 -- Writing a picture as a PAM file.
-use Rattle.std.specs.Prelude.{cond, List, [], ◌∷◌, ◌++◌, ℕ, ltb, eqb, length}
+use Rattle.std.specs.Prelude.{cond, List, [], ◌∷◌, ◌++◌, ℕ, ltb, eqb, length, Result, Ok, Err}
 use Rattle.picture.specs.Answer.{Answer, answered, settled}
 use Rattle.picture.specs.Planes.{laid}
-use Rattle.picture.specs.Refusal.{Check, check, first_of, picture_checks}
-use Rattle.grading.specs.Premultiplied.{check_number, scanned}
+use Rattle.picture.specs.Refusal.{Check, check, first_of, picture_checks, number}
+use Rattle.grading.specs.Premultiplied.{scanned}
 use Rattle.pam_format.specs.Header.{header}
 use Rattle.pam_format.specs.Format.{file_length}
 use Rattle.pam_convert.specs.Straight.{exported}
-use Rattle.pam.specs.declared.writing.Exported.{Exported}
-use Rattle.pam.specs.declared.writing.Exported.TheVariants.{Refused, Exceeds, TooShort, Written}
+use Rattle.picture.specs.declared.checks.Refusal.{Refusal}
+use Rattle.pam.specs.declared.writing.Unwritten.{Unwritten}
 
 -- the values beside the number, and the lent file: how many bytes were written, and the first place of which a channel exceeds alpha
 pub record FileLeft : Type 0 where
@@ -41,9 +41,11 @@ export_outcome picture w h file =
     settled (export_refusal picture w h (length file)) (nothing_written (export_refusal picture w h (length file)) picture w h file)
     (file_left (file_length w h) 0 (laid (file_of w h picture) file))
 
--- the number and the values of each case of the answer, with the lent file
-abbrev pub export_answer : Exported → List ℕ → Answer FileLeft
-export_answer (Refused r) file = answered (check_number r) (file_left 0 0 file)
-export_answer (Exceeds p) file = answered 16 (file_left 0 p.at file)
-export_answer TooShort file = answered 3 (file_left 0 0 file)
-export_answer (Written n) file = answered 0 (file_left n 0 file)
+-- a refusal with a place
+abbrev pub refused_at : Refusal → ℕ → Unwritten
+refused_at r place = record { refusal = r; place = record { at = place } }
+
+-- the number and the values of each answer, with the lent file
+abbrev pub export_answer : Result ℕ Unwritten → List ℕ → Answer FileLeft
+export_answer (Err u) file = answered (number u.refusal) (file_left 0 u.place.at file)
+export_answer (Ok n) file = answered 0 (file_left n 0 file)

@@ -1,15 +1,13 @@
 -- Reading a PAM file into a picture.
-use Rattle.std.specs.Prelude.{not, List, [], ◌∷◌, ℕ, length, drop}
+use Rattle.std.specs.Prelude.{not, List, [], ◌∷◌, ℕ, length, drop, Result, Ok, Err}
 use Rattle.picture.specs.Answer.{Answer, answered, settled}
 use Rattle.picture.specs.Planes.{bytes_of, laid}
-use Rattle.picture.specs.Refusal.{Check, check, first_of, too_short}
+use Rattle.picture.specs.Refusal.{Check, check, first_of, too_short, number}
 use Rattle.pam_format.specs.Header.{header}
 use Rattle.pam_format.specs.Format.{width_in, height_in, is_pam}
 use Rattle.pam_convert.specs.Straight.{imported}
-use Rattle.pam.specs.declared.reading.ImportRefusal.{ImportRefusal}
-use Rattle.pam.specs.declared.reading.ImportRefusal.TheVariants.{NoPam, TooShort}
-use Rattle.pam.specs.declared.reading.Imported.{Imported}
-use Rattle.pam.specs.declared.reading.Imported.TheVariants.{Refused, Read}
+use Rattle.picture.specs.declared.checks.Refusal.{Refusal}
+use Rattle.picture.specs.declared.FullSize.{FullSize}
 
 -- the values beside the number, and the lent picture: sides, and how many bytes were written
 pub record PictureRead : Type 0 where
@@ -39,12 +37,7 @@ import_outcome file picture =
     settled (first_of (import_checks file (length picture))) (nothing_read picture)
     (picture_read (width_in file) (height_in file) (laid (imported (width_in file) (height_in file) (pixels_in file (width_in file) (height_in file))) picture))
 
--- the number of each refusal
-abbrev pub import_number : ImportRefusal → ℕ
-import_number NoPam = 15
-import_number TooShort = 3
-
--- the number and the values of each case of the answer, with the lent picture
-abbrev pub import_answer : Imported → List ℕ → Answer PictureRead
-import_answer (Refused r) picture = answered (import_number r) (nothing_read picture)
-import_answer (Read size) picture = answered 0 (picture_read size.w size.h picture)
+-- the number and the values of each answer, with the lent picture
+abbrev pub import_answer : Result FullSize Refusal → List ℕ → Answer PictureRead
+import_answer (Err r) picture = answered (number r) (nothing_read picture)
+import_answer (Ok size) picture = answered 0 (picture_read size.w size.h picture)

@@ -3,7 +3,10 @@
 
 ghost use Rattle.std.specs.Prelude.{◌≡◌, ◌≤◌, length};
 ghost use Rattle.picture.specs.Answer.{answered};
+ghost use Rattle.picture.specs.Refusal.{number_of};
 ghost use Rattle.plate_job.specs.Program.{longest_input, answer_to};
+
+use picture::{Refusal, refuse_if};
 
 // The standard streams.
 const STDIN: i32 = 0;
@@ -14,23 +17,20 @@ const STDOUT: i32 = 1;
 const LONGEST: usize = 16384;
 
 // Runs the job in place. The scratch has room for any body, so that 10 is the one refusal.
-fn run(input: &mut [u8], scratch: &mut [u8]) -> u32
+fn run(input: &mut [u8], scratch: &mut [u8]) -> Result<(), Refusal>
     requires { longest_input ≤ length scratch.old }
-    ensures { answered result input.new ≡ answer_to input.old }
+    ensures { answered (number_of result) input.new ≡ answer_to input.old }
 {
-    if LONGEST < input.len() {
-        return picture::BROKEN_PLATE;
-    }
+    refuse_if(LONGEST < input.len(), Refusal::BrokenPlate)?;
     job::plate_job(input, scratch)
 }
 
 fn answer(input: &mut [u8], scratch: &mut [u8])
     requires { longest_input ≤ length scratch.old }
 {
-    if run(input, scratch) == 0 {
-        io::write_all(STDOUT, input);
-    } else {
-        io::write_all(STDOUT, b"refused 10\n");
+    match run(input, scratch) {
+        Ok(()) => io::write_all(STDOUT, input),
+        Err(_) => io::write_all(STDOUT, b"refused 10\n"),
     }
 }
 

@@ -6,6 +6,7 @@ use Prim.Native.Nat.{ℕ, ◌+◌, ◌-◌, ◌≤◌}
 use native.Mathlib.Omega.{arith}
 use lib.ListN.{length, take, drop, length-append, length-drop}
 use lib.Seq.{length-take-le, take_all}
+use Rattle.std.proofs.Common.{Ok}
 use Rattle.picture.specs.Planes.{bytes_of}
 use Rattle.picture.specs.Refusal.{wrong_sides, too_short}
 use Rattle.picture.specs.declared.FullSize.{FullSize}
@@ -17,7 +18,6 @@ use Rattle.pam_format.specs.Format.{width_in, height_in, is_pam, Pam}
 use Rattle.pam_format.proofs.Files.{pam_is}
 use Rattle.pam_convert.specs.Straight.{imported}
 use Rattle.pam.specs.Import.{pixels_in, import_answer}
-use Rattle.pam.specs.declared.reading.Imported.TheVariants.{Read}
 use Rattle.pam.proofs.Imports.{no_pam, no_room, read_in_lem, laid_front}
 use Rattle.pam_convert.proofs.Recolouring.{length_recoloured}
 use Rattle.pam.proofs.reading.pam_read.Goals as goal
@@ -120,5 +120,5 @@ returns c =
     let l = (goal.at.returns c).After-header_length-start in
     let new = c.read_body.new.picture ++ drop c.bytes-n.result c.args.picture.now in
     let all = c.read_body.ensures ∙ ap₂ (λ (s : FullSize) (l : List ℕ). imported s.w s.h l) (size_is l) (body_is l) in
-    ap (λ (s : FullSize). import_answer (Read s) new) (size_is l)
+    ap (λ (s : FullSize). import_answer (Ok s) new) (size_is l)
     ∙ read_in_lem (file l) _ (pam l) (enough l) new (laid_front _ _ _ _ all (count l ∙ sym (length_recoloured _ (w l) (h l) _)))
