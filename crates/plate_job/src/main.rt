@@ -31,7 +31,7 @@ fn answer(input: &mut [u8], scratch: &mut [u8])
     match run(input, scratch) {
         Ok(()) => io::write_all(STDOUT, input),
         Err(_) => io::write_all(STDOUT, b"refused 10\n"),
-    }
+    };
 }
 
 // One byte more than the program takes is read, so that a longer input is told from the longest.
