@@ -12,7 +12,7 @@ pub fn wrapped_row() -> [u8; 12]
     let mut picture = [0u8, 0, 0, 255, 0, 0, 0, 0, 0, 0, 0, 0];
     let mut scratch = [0u8; 12];
     let weights = [0.25, 0.5, 0.25];
-    gaussian_blur::blur(&mut picture, 3, 1, &mut scratch, &weights, 1, 1.0, 1);
+    let _ = gaussian_blur::blur(&mut picture, 3, 1, &mut scratch, &weights, 1, 1.0, 1);
     picture
 }
 
@@ -21,7 +21,7 @@ pub fn moved_out() -> [u8; 12]
     ensures { result ≡ alphas (0 ∷ 0 ∷ 0 ∷ []) }
 {
     let mut picture = [0u8, 0, 0, 1, 0, 0, 0, 2, 0, 0, 0, 3];
-    shift::shift(&mut picture, 3, 1, -4.0, 0.0);
+    let _ = shift::shift(&mut picture, 3, 1, -4.0, 0.0);
     picture
 }
 
@@ -37,7 +37,8 @@ pub fn no_width(
 ) -> u32
     ensures { (result ≡ 1) × (picture.new ≡ picture.old) × (scratch.new ≡ scratch.old) }
 {
-    gaussian_blur::blur(picture, 0, h, scratch, weights, n, strength, edge)
+    let answer = gaussian_blur::blur(picture, 0, h, scratch, weights, n, strength, edge);
+    picture::number_of(answer)
 }
 
 // Any call of the blur, and what its number tells the client.
@@ -53,5 +54,6 @@ pub fn blur_told(
 ) -> u32
     ensures { Told result w h picture.old scratch.old picture.new scratch.new }
 {
-    gaussian_blur::blur(picture, w, h, scratch, weights, n, strength, edge)
+    let answer = gaussian_blur::blur(picture, w, h, scratch, weights, n, strength, edge);
+    picture::number_of(answer)
 }

@@ -5,9 +5,6 @@ ghost use Rattle.pam.specs.Import.{import_outcome};
 ghost use Rattle.pam.specs.Export.{file_left, export_outcome};
 ghost use Rattle.face_files.specs.Images.{read_in};
 
-use pam::reading::Imported;
-use pam::writing::Exported;
-
 // Reads a PAM file into the front of a picture.
 #[unsafe(no_mangle)]
 pub extern "C" fn corbelrush_pam_read(
@@ -23,8 +20,8 @@ pub extern "C" fn corbelrush_pam_read(
     *h = 0;
     *written = 0;
     match pam::reading::pam_read(file, picture) {
-        Imported::Refused(r) => r.number(),
-        Imported::Read(size) => {
+        Err(refusal) => refusal.number(),
+        Ok(size) => {
             *w = size.width() as u32;
             *h = size.height() as u32;
             *written = size.bytes() as u64;
@@ -48,13 +45,11 @@ pub extern "C" fn corbelrush_pam_write(
     *written = 0;
     *place = 0;
     match pam::writing::pam_write(picture, w, h, file) {
-        Exported::Refused(r) => r.number(),
-        Exported::Exceeds(p) => {
-            *place = p.at as u64;
-            picture::EXCEEDS
+        Err(unwritten) => {
+            *place = unwritten.place.at as u64;
+            unwritten.refusal.number()
         }
-        Exported::TooShort => picture::TOO_SHORT,
-        Exported::Written(n) => {
+        Ok(n) => {
             *written = n as u64;
             0
         }

@@ -8,10 +8,6 @@ ghost use Rattle.body_blur.specs.Blur.{plate_blur};
 ghost use Rattle.job.specs.Job.{job_outcome};
 ghost use Rattle.face_files.specs.Words.{picture_in};
 
-use plate::{Labelling, Lookup};
-use plate_empty::Started;
-use plate_write::Added;
-
 // The sides of the picture of that index, and where it lies.
 #[unsafe(no_mangle)]
 pub extern "C" fn corbelrush_plate_picture(
@@ -28,14 +24,13 @@ pub extern "C" fn corbelrush_plate_picture(
     *h = 0;
     *offset = 0;
     *length = 0;
-    let found = plate::find_picture(plate, index);
-    match found {
-        Lookup::Refused(_) => found.number(),
-        Lookup::Found { size, stretch } => {
-            *w = size.width() as u32;
-            *h = size.height() as u32;
-            *offset = stretch.offset as u64;
-            *length = stretch.length as u64;
+    match plate::find_picture(plate, index) {
+        Err(refusal) => refusal.number(),
+        Ok(found) => {
+            *w = found.size.width() as u32;
+            *h = found.size.height() as u32;
+            *offset = found.stretch.offset as u64;
+            *length = found.stretch.length as u64;
             0
         }
     }
@@ -54,10 +49,10 @@ pub extern "C" fn corbelrush_plate_label(
     *unit = 0;
     *sheet = 0;
     match plate::find_label(plate, index) {
-        Labelling::NoLabel(r) => r.number(),
-        Labelling::Named { unit: u, sheet: s } => {
-            *unit = u.number();
-            *sheet = s;
+        Err(refusal) => refusal.number(),
+        Ok(label) => {
+            *unit = label.unit.number();
+            *sheet = label.sheet;
             0
         }
     }
@@ -68,7 +63,7 @@ pub extern "C" fn corbelrush_plate_label(
 pub extern "C" fn corbelrush_plate_job(plate: &mut [u8], scratch: &mut [u8]) -> u32
     ensures { answered result (lent plate.new scratch.new) ≡ job_outcome plate_blur plate.old scratch.old }
 {
-    job::plate_job(plate, scratch)
+    picture::number_of(job::plate_job(plate, scratch))
 }
 
 // Starts a plate of no pictures, of that version, as `plate_start` does; its length goes through the pointer.
@@ -78,8 +73,8 @@ pub extern "C" fn corbelrush_plate_start(buffer: &mut [u8], version: u32, used: 
 {
     *used = 0;
     match plate_empty::plate_start(buffer, version) {
-        Started::NotStarted(r) => r.number(),
-        Started::Empty(n) => {
+        Err(refusal) => refusal.number(),
+        Ok(n) => {
             *used = n as u64;
             0
         }
@@ -102,8 +97,8 @@ pub extern "C" fn corbelrush_plate_add(
 {
     *after = 0;
     match plate_write::plate_add(buffer, used as usize, picture, w, h, unit, sheet) {
-        Added::Refused(r) => r.number(),
-        Added::InUse(n) => {
+        Err(refusal) => refusal.number(),
+        Ok(n) => {
             *after = n as u64;
             0
         }

@@ -21,7 +21,12 @@ pub extern "C" fn corbelrush_recipes(
 ) -> u32
     ensures { answered result (chain_left index.new (lent_copy picture.new scratch.new copy.new)) ≡ chain_outcome picture.old w h scratch.old copy.old steps.now table.now }
 {
-    let answer = recipes::recipes(picture, w, h, scratch, copy, steps, table);
-    *index = answer.index as u64;
-    answer.number
+    *index = 0;
+    match recipes::recipes(picture, w, h, scratch, copy, steps, table) {
+        Ok(()) => 0,
+        Err(stopped) => {
+            *index = stopped.index as u64;
+            stopped.refusal.number()
+        }
+    }
 }

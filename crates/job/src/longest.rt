@@ -9,7 +9,7 @@ pub(crate) fn longest_body(plate: &[u8]) -> usize
     ensures { result ≡ longest_body plate.now }
 {
     let n = plate_numbers::count(plate);
-    let mut longest = 0;
+    let mut longest: usize = 0;
     for i in 0..n {
         let e = plate_format::read_entry(plate, i);
         longest = longest.max(e.length as usize);

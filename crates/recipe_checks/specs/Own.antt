@@ -1,12 +1,13 @@
 -- A recipe's own checks: 19 first, then those of its operation.
-use Rattle.std.specs.Prelude.{Bool, not, cond, ◌||◌, ◌&&◌, List, [], ◌∷◌, ◌++◌, ℕ, ◌*◌, ◌/◌, min, ltb, leb, eqb, Float, length, take, drop}
-use Rattle.picture.specs.Refusal.{Check, check, first_of, max_taps, wrong_taps, too_deep, wrong_edge, picture_checks}
+use Rattle.std.specs.Prelude.{Bool, not, cond, ◌||◌, ◌&&◌, List, [], ◌∷◌, ◌++◌, ℕ, ◌*◌, ◌/◌, min, ltb, leb, eqb, Float, length, take, drop, Result, Ok, Err}
+use Rattle.picture.specs.Refusal.{Check, check, number, first_of, max_taps, wrong_taps, too_deep, wrong_edge, picture_checks}
 use Rattle.binary32.specs.Ranges.{finite, any_outside}
 use Rattle.shift.specs.Outcome.{wrong_offsets}
 use Rattle.drop_shadow.specs.Outcome.{either_short, not_finite, wrong_colour}
 use Rattle.drop_shadow.specs.declared.Recipe.{Recipe}
 use Rattle.recipe_checks.specs.declared.Step.{Step}
-use Rattle.recipe_checks.specs.declared.Chained.{Chained}
+use Rattle.picture.specs.declared.checks.Refusal.{Refusal}
+use Rattle.recipe_checks.specs.declared.Stopped.{Stopped}
 
 -- how many kernels a table of so many weights has: 33 weights a kernel; a shorter rest is none
 unfoldable pub kernels : ℕ → ℕ
@@ -62,10 +63,19 @@ own_number table step = first_of (own_checks table step)
 abbrev pub frame_checks : ℕ → ℕ → ℕ → ℕ → ℕ → List Check
 frame_checks picture w h scratch copy = picture_checks picture w h ++ (check 3 (either_short scratch copy w h) ∷ [])
 
--- a number and an index
+-- a number and an index: of a list's refusal and of the recipe whose own it is
+pub record Chained : Type 0 where
+  pub number : ℕ
+  pub index : ℕ
+
 abbrev pub found : ℕ → ℕ → Chained
 found number index = record { number = number; index = index }
 
--- what is found so far, and the number of recipe i: the first that is not 0 stays
-unfoldable pub noted : Chained → ℕ → ℕ → Chained
-noted before i number = cond (eqb before.number 0) (cond (eqb number 0) before (found number i)) before
+-- why a list is refused
+abbrev pub stopped_at : Refusal → ℕ → Stopped
+stopped_at refusal index = record { refusal = refusal; index = index }
+
+-- the number and the index of an answer: 0 and 0 where nothing is refused
+abbrev pub told : Result Unit Stopped → Chained
+told (Ok x) = found 0 0
+told (Err s) = found (number s.refusal) s.index

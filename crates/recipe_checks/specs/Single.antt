@@ -1,8 +1,6 @@
 -- The single call that a recipe names, and what it makes of the three lent buffers.
-use Rattle.std.specs.Prelude.{◌≡◌, Bool, false, not, cond, List, ℕ, ◌≤◌, eqb, Float, length}
-use Rattle.picture.specs.Planes.{bytes_of, cleared}
+use Rattle.std.specs.Prelude.{Bool, not, cond, List, ℕ, eqb, Float, length}
 use Rattle.picture.specs.Modes.{mode_of}
-use Rattle.picture.specs.Refusal.{wrong_sides}
 use Rattle.picture.specs.Answer.{Answer, answered, Lent, LentCopy, lent_copy}
 use Rattle.binary32.specs.Round.{whole_offset}
 use Rattle.shift.specs.Shift.{shifted_picture}
@@ -11,7 +9,6 @@ use Rattle.gaussian_blur.specs.Outcome.{blurred_or_kept, blur_outcome}
 use Rattle.drop_shadow.specs.Shadowed.{shadowed}
 use Rattle.drop_shadow.specs.Outcome.{shadow_outcome}
 use Rattle.recipe_checks.specs.declared.Step.{Step}
-use Rattle.recipe_checks.specs.declared.Chained.{Chained}
 use Rattle.recipe_checks.specs.Own.{unknown, step_kernel, recipe_of}
 
 -- whether the original is composited: any number but 0 says so
@@ -39,23 +36,9 @@ single_call table w h step l =
     (cond (eqb step.operation 1) (beside_both (shift_outcome l.picture w h step.dx step.dy) l.scratch l.copy)
     (kernel_call (step_kernel table step) w h step l))
 
--- a recipe of a chain runs where no recipe of it is refused
-unfoldable pub ran_step : List Float → ℕ → ℕ → Chained → Step → LentCopy → LentCopy
-ran_step table w h before step l = cond (eqb before.number 0) (single_call table w h step l).left l
-
 -- the picture that a good recipe makes: blurred, moved, or with its shadow
 unfoldable pub worked : List Float → ℕ → ℕ → Step → List ℕ → List ℕ
 worked table w h step p =
     cond (eqb step.operation 1) (shifted_picture (whole_offset step.dx) (whole_offset step.dy) w h p)
     (cond (eqb step.operation 0) (blurred_or_kept (mode_of step.edge) (step_kernel table step) step.n step.strength w h p)
     (shadowed (mode_of step.edge) (step_kernel table step) step.n (recipe_of step) (composited step) w h p))
-
--- a work buffer at the end of a chain: zero over 4wh, where nothing was refused
-unfoldable pub finished : ℕ → ℕ → Chained → List ℕ → List ℕ
-finished w h before work = cond (eqb before.number 0) (cleared (bytes_of w h) work) work
-
--- what a chain that is done has room for
-pub record ChainRoom (w h : ℕ) (scratch copy : List ℕ) : Type 0 where
-  pub sides : wrong_sides w h ≡ false
-  pub scratch_room : bytes_of w h ≤ length scratch
-  pub copy_room : bytes_of w h ≤ length copy

@@ -2,12 +2,13 @@
 #![tactic(auto)]
 
 ghost use Rattle.std.specs.Prelude.{◌≡◌, cond, ◌<◌, eqb, length};
-ghost use Rattle.picture.specs.Refusal.{first_else, first_of};
+ghost use Rattle.picture.specs.Refusal.{number_of, first_of};
 ghost use Rattle.picture.specs.Answer.{answered, lent_copy};
-ghost use Rattle.recipe_checks.specs.Own.{kernels, kernel_of, kernel_own, unknown, recipe_of, own_number, blur_own, shadow_own, frame_checks, noted, found};
-ghost use Rattle.recipe_checks.specs.Single.{kernel_call, single_call, ran_step, finished, ChainRoom};
+ghost use Rattle.recipe_checks.specs.Own.{kernels, kernel_of, kernel_own, unknown, recipe_of, own_number, shift_own, blur_own, shadow_own, frame_checks, stopped_at, found, told};
+ghost use Rattle.recipe_checks.specs.Single.{kernel_call, single_call};
 
 use drop_shadow::Recipe;
+use picture::{Refusal, refuse_if};
 
 // The operations of a recipe.
 pub const BLUR: u32 = 0;
@@ -35,11 +36,19 @@ pub struct Step {
     pub alpha: f32,
 }
 
-// What a chain answers: 0, or the refusal's number and the index of the recipe whose own it is, else 0.
+// Why a list of recipes is refused: the refusal, and the index of the recipe whose own it is, else 0.
 #[derive(Clone, Copy)]
-pub struct Chained {
-    pub number: u32,
+pub struct Stopped {
+    pub refusal: Refusal,
     pub index: usize,
+}
+
+impl From<Refusal> for Stopped {
+    ghost from_gives = { λ r s. s ≡ stopped_at r 0 };
+
+    fn from(refusal: Refusal) -> Stopped {
+        Stopped { refusal, index: 0 }
+    }
 }
 
 fn recipe_of(step: Step) -> Recipe
@@ -69,21 +78,35 @@ fn is_unknown(step: Step, weights: usize) -> bool
     weights / picture::MAX_TAPS <= step.kernel as usize
 }
 
-// Refusals 7 and 9 of a blur, 7, 8 and 9 of a shadow.
-fn late_refusal(step: Step) -> u32
-    ensures { result ≡ first_of (cond (eqb step.operation 0) (blur_own step) (shadow_own step)) }
+// Check 7 of a shift.
+#[tactic(auto, unfolding(picture::specs::Refusal::number_of, picture::specs::Refusal::number, picture::specs::Refusal::first_of, picture::specs::Refusal::first_else))]
+fn check_shift(step: Step) -> Result<(), Refusal>
+    ensures { number_of result ≡ first_of (shift_own step) }
 {
-    let wrong_edge = picture::wrong_edge(step.edge);
-    let nine = picture::first(picture::WRONG_EDGE, wrong_edge, 0);
-    if step.operation == BLUR {
-        let finite = binary32::is_finite(step.strength);
-        return picture::first(picture::NOT_FINITE, !finite, nine);
-    }
+    refuse_if(
+        shift::wrong_offsets(step.dx, step.dy),
+        Refusal::NotFinite,
+    )
+}
+
+// Checks 7 and 9 of a blur.
+#[tactic(auto, unfolding(picture::specs::Refusal::number_of, picture::specs::Refusal::number, picture::specs::Refusal::first_of, picture::specs::Refusal::first_else))]
+fn check_blur(step: Step) -> Result<(), Refusal>
+    ensures { number_of result ≡ first_of (blur_own step) }
+{
+    refuse_if(!binary32::is_finite(step.strength), Refusal::NotFinite)?;
+    refuse_if(picture::wrong_edge(step.edge), Refusal::WrongEdge)
+}
+
+// Checks 7, 8 and 9 of a shadow.
+#[tactic(auto, unfolding(picture::specs::Refusal::number_of, picture::specs::Refusal::number, picture::specs::Refusal::first_of, picture::specs::Refusal::first_else))]
+fn check_shadow(step: Step) -> Result<(), Refusal>
+    ensures { number_of result ≡ first_of (shadow_own step) }
+{
     let recipe = recipe_of(step);
-    let wrong_colour = drop_shadow::wrong_colour(recipe);
-    let eight = picture::first(picture::WRONG_COLOUR, wrong_colour, nine);
-    let not_finite = drop_shadow::not_finite(recipe);
-    picture::first(picture::NOT_FINITE, not_finite, eight)
+    refuse_if(drop_shadow::not_finite(recipe), Refusal::NotFinite)?;
+    refuse_if(drop_shadow::wrong_colour(recipe), Refusal::WrongColour)?;
+    refuse_if(picture::wrong_edge(step.edge), Refusal::WrongEdge)
 }
 
 // Kernel k of the table, its first taps weights.
@@ -92,62 +115,59 @@ fn kernel_part(table: &[f32], k: u32, taps: u32) -> &[f32]
     ensures { result.now ≡ kernel_of table.now k taps }
 {
     let a = picture::MAX_TAPS * k as usize;
-    let e = a + picture::least(taps as usize, picture::MAX_TAPS);
+    let e = a + (taps as usize).min(picture::MAX_TAPS);
     &table[a..e]
 }
 
-// Refusals 4, 5 and 6 of a recipe's kernel, in front of what the later ones answer.
-fn kernel_own(step: Step, table: &[f32], later: u32) -> u32
+// Checks 4, 5 and 6, of a recipe's kernel.
+#[tactic(auto, unfolding(picture::specs::Refusal::number_of, picture::specs::Refusal::number, picture::specs::Refusal::first_of, picture::specs::Refusal::first_else))]
+fn check_kernel(step: Step, table: &[f32]) -> Result<(), Refusal>
     requires { step.kernel < kernels (length table.now) }
-    ensures { result ≡ first_else (kernel_own table.now step) later }
+    ensures { number_of result ≡ first_of (kernel_own table.now step) }
 {
-    let outside = binary32::any_outside(kernel_part(table, step.kernel, step.taps));
-    let wrong_taps = picture::wrong_taps(step.taps as usize);
-    let too_deep = picture::too_deep(step.n);
-    let six = picture::first(picture::TOO_DEEP, too_deep, later);
-    let five = picture::first(picture::WRONG_WEIGHT, outside, six);
-    picture::first(picture::WRONG_TAPS, wrong_taps, five)
+    refuse_if(picture::wrong_taps(step.taps as usize), Refusal::WrongTaps)?;
+    let weights = kernel_part(table, step.kernel, step.taps);
+    refuse_if(binary32::any_outside(weights), Refusal::WrongWeight)?;
+    refuse_if(picture::too_deep(step.n), Refusal::TooDeep)
 }
 
-// The first of a recipe's own refusals that fits, 0 where none does.
-pub fn own_refusal(step: Step, table: &[f32]) -> u32
-    ensures { result ≡ own_number table.now step }
+// The first of a recipe's own refusals that fits.
+pub fn check_own(step: Step, table: &[f32]) -> Result<(), Refusal>
+    ensures { number_of result ≡ own_number table.now step }
 {
     if is_unknown(step, table.len()) {
-        return picture::WRONG_RECIPE;
+        return Err(Refusal::WrongRecipe);
     }
     if step.operation == SHIFT {
-        let wrong = shift::wrong_offsets(step.dx, step.dy);
-        return picture::first(picture::NOT_FINITE, wrong, 0);
+        return check_shift(step);
     }
-    let late = late_refusal(step);
-    kernel_own(step, table, late)
+    check_kernel(step, table)?;
+    if step.operation == BLUR {
+        return check_blur(step);
+    }
+    check_shadow(step)
 }
 
-// Refusals 1 to 3, of the lent buffers' lengths.
-pub fn frame_refusal(picture: usize, w: u32, h: u32, scratch: usize, copy: usize) -> Chained
-    ensures { result ≡ found (first_of (frame_checks picture w h scratch copy)) 0 }
+// The same of recipe i of a list.
+pub fn check_at(step: Step, i: usize, table: &[f32]) -> Result<(), Stopped>
+    ensures { told result ≡ cond (eqb (own_number table.now step) 0) (found 0 0) (found (own_number table.now step) i) }
 {
-    let short = drop_shadow::either_short(scratch, copy, w, h);
-    let three = picture::first(picture::TOO_SHORT, short, 0);
-    Chained {
-        number: picture::picture_refusal(picture, w, h, three),
-        index: 0,
+    match check_own(step, table) {
+        Ok(()) => Ok(()),
+        Err(refusal) => Err(Stopped { refusal, index: i }),
     }
 }
 
-// Notes recipe i's own number where none was found before it.
-pub fn look_at(before: Chained, i: usize, step: Step, table: &[f32]) -> Chained
-    ensures { result ≡ noted before i (own_number table.now step) }
+// Checks 1 to 3, of the lent buffers' lengths.
+#[tactic(auto, unfolding(picture::specs::Refusal::number_of, picture::specs::Refusal::number, picture::specs::Refusal::first_of, picture::specs::Refusal::first_else))]
+pub fn check_frame(picture: usize, w: u32, h: u32, scratch: usize, copy: usize) -> Result<(), Refusal>
+    ensures { number_of result ≡ first_of (frame_checks picture w h scratch copy) }
 {
-    let number = own_refusal(step, table);
-    if before.number != 0 {
-        return before;
-    }
-    if number == 0 {
-        return before;
-    }
-    Chained { number, index: i }
+    picture::check_picture(picture, w, h)?;
+    refuse_if(
+        drop_shadow::either_short(scratch, copy, w, h),
+        Refusal::TooShort,
+    )
 }
 
 // The single call that a recipe with a kernel names: a blur or a shadow.
@@ -159,8 +179,8 @@ fn call_with_kernel(
     scratch: &mut [u8],
     copy: &mut [u8],
     weights: &[f32],
-) -> u32
-    ensures { answered result (lent_copy picture.new scratch.new copy.new) ≡ kernel_call weights.now w h step (lent_copy picture.old scratch.old copy.old) }
+) -> Result<(), Refusal>
+    ensures { answered (number_of result) (lent_copy picture.new scratch.new copy.new) ≡ kernel_call weights.now w h step (lent_copy picture.old scratch.old copy.old) }
 {
     if step.operation == BLUR {
         return gaussian_blur::blur(
@@ -198,46 +218,15 @@ pub fn call(
     scratch: &mut [u8],
     copy: &mut [u8],
     table: &[f32],
-) -> u32
-    ensures { answered result (lent_copy picture.new scratch.new copy.new) ≡ single_call table.now w h step (lent_copy picture.old scratch.old copy.old) }
+) -> Result<(), Refusal>
+    ensures { answered (number_of result) (lent_copy picture.new scratch.new copy.new) ≡ single_call table.now w h step (lent_copy picture.old scratch.old copy.old) }
 {
     if is_unknown(step, table.len()) {
-        return picture::WRONG_RECIPE;
+        return Err(Refusal::WrongRecipe);
     }
     if step.operation == SHIFT {
         return shift::shift(picture, w, h, step.dx, step.dy);
     }
     let weights = kernel_part(table, step.kernel, step.taps);
     call_with_kernel(step, picture, w, h, scratch, copy, weights)
-}
-
-// Runs a recipe of a chain where no recipe of it is refused.
-pub fn run_step(
-    before: Chained,
-    step: Step,
-    picture: &mut [u8],
-    w: u32,
-    h: u32,
-    scratch: &mut [u8],
-    copy: &mut [u8],
-    table: &[f32],
-)
-    ensures { lent_copy picture.new scratch.new copy.new ≡ ran_step table.now w h before step (lent_copy picture.old scratch.old copy.old) }
-{
-    if before.number == 0 {
-        call(step, picture, w, h, scratch, copy, table);
-    }
-}
-
-// Clears both work buffers where nothing was refused.
-pub fn finish(before: Chained, w: u32, h: u32, scratch: &mut [u8], copy: &mut [u8]) -> Chained
-    requires { before.number ≡ 0 → ChainRoom w h scratch.old copy.old }
-    ensures { (result ≡ before) × (scratch.new ≡ finished w h before scratch.old) × (copy.new ≡ finished w h before copy.old) }
-{
-    if before.number == 0 {
-        let k = picture::full_size(w, h).bytes();
-        picture::clear(scratch, k);
-        picture::clear(copy, k);
-    }
-    before
 }

@@ -4,7 +4,7 @@ use lib.ListN.{length}
 use Rattle.picture.specs.Planes.{bytes_of, cleared}
 use Rattle.picture.specs.Answer.{LentCopy, lent_copy}
 use Rattle.picture.proofs.Settled.{Reading, read}
-use Rattle.recipe_checks.specs.declared.Chained.{Chained}
+use Rattle.recipe_checks.specs.Own.{Chained}
 use Rattle.recipes.specs.Chain.{chain_left, chain_answer, chain_outcome, chain_found, chained}
 use Rattle.recipe_laws.specs.Calls.{ListCall, called, called_from_c, OfCalls}
 

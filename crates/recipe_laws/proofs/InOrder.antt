@@ -9,8 +9,8 @@ use Rattle.picture.specs.Planes.{bytes_of, cleared}
 use Rattle.picture.specs.Refusal.{first_of}
 use Rattle.picture.specs.Answer.{LentCopy, lent_copy}
 use Rattle.recipe_checks.specs.declared.Step.{Step}
-use Rattle.recipe_checks.specs.Own.{frame_checks, found}
-use Rattle.recipe_checks.specs.Single.{single_call, ran_step}
+use Rattle.recipe_checks.specs.Own.{frame_checks}
+use Rattle.recipe_checks.specs.Single.{single_call}
 use Rattle.recipes.specs.Chain.{ChainLeft, first_bad, chain_found, all_ran}
 use Rattle.recipes.proofs.Done.{framed_of, stepped, all_done}
 use Rattle.recipes.proofs.Found.{head_good, none_by}
@@ -31,8 +31,8 @@ all_answer_lem table w h i (step ∷ steps) p s c none framed =
     (one.done, all_answer_lem table w h (suc i) steps l.picture l.scratch l.copy good.1 one.framed)
 
 -- what the list runs are these calls
-in_turn : (table : List Float) (w h : ℕ) (steps : List Step) (l : LentCopy) → single_calls table w h steps l ≡ all_ran table w h (found 0 0) steps l
-unfolding single_calls all_ran ran_step
+in_turn : (table : List Float) (w h : ℕ) (steps : List Step) (l : LentCopy) → single_calls table w h steps l ≡ all_ran table w h steps l
+unfolding single_calls all_ran
 in_turn table w h [] l = refl
 in_turn table w h (step ∷ steps) l = in_turn table w h steps (single_call table w h step l).left
 
@@ -49,7 +49,7 @@ module _ (k : ListCall) (e : Promised k) where
       let left = (reading k e).finished zero in
       let none = none_by k.table k.steps frame (eqb frame 0) refl (sym (reading k e).number ∙ zero) in
       let framed = framed_of k.w k.h (length k.before.picture) (length k.before.scratch) (length k.before.copy) none.0 in
-      let ran = all_done k.table k.w k.h (found 0 0) refl 0 k.steps k.before.picture k.before.scratch k.before.copy none.1 framed in
+      let ran = all_done k.table k.w k.h 0 k.steps k.before.picture k.before.scratch k.before.copy none.1 framed in
       let last = ap (λ (l : LentCopy). l.picture) (in_turn k.table k.w k.h k.steps k.before) ∙ ran.picture_is in (
         all_answer_lem k.table k.w k.h 0 k.steps k.before.picture k.before.scratch k.before.copy none.1 framed,
         record {

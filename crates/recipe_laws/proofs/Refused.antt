@@ -14,8 +14,7 @@ use Rattle.picture.specs.Refusal.{first_else, first_of, zero_or_above, wrong_sid
 use Rattle.gaussian_blur.specs.Outcome.{blur_outcome}
 use Rattle.drop_shadow.specs.Outcome.{either_short, shadow_outcome}
 use Rattle.recipe_checks.specs.declared.Step.{Step}
-use Rattle.recipe_checks.specs.declared.Chained.{Chained}
-use Rattle.recipe_checks.specs.Own.{unknown, own_number, frame_checks, found}
+use Rattle.recipe_checks.specs.Own.{Chained, unknown, own_number, frame_checks, found}
 use Rattle.recipe_checks.specs.Single.{kernel_call, single_call}
 use Rattle.recipe_checks.proofs.Known.{own_is}
 use Rattle.recipes.specs.Chain.{ChainLeft, chain_found, first_bad, step_at}

@@ -2,8 +2,7 @@
 use Rattle.std.specs.Prelude.{◌≡◌, false, List, ℕ, ◌≤◌, ◌<◌, Float, length}
 use Rattle.picture.specs.Answer.{LentCopy}
 use Rattle.recipe_checks.specs.declared.Step.{Step}
-use Rattle.recipe_checks.specs.declared.Chained.{Chained}
-use Rattle.recipe_checks.specs.Own.{unknown, own_number}
+use Rattle.recipe_checks.specs.Own.{Chained, unknown, own_number}
 use Rattle.recipe_checks.specs.Single.{kernel_call, single_call}
 use Rattle.recipes.specs.Chain.{step_at}
 use Rattle.recipe_laws.specs.Calls.{ListCall}

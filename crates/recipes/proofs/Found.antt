@@ -1,43 +1,14 @@
 -- What is found of a list: the first bad recipe stays, and where none is bad every recipe is good.
-use mathlib.Core.Path.{◌≡◌, refl, ◌∙◌, ap}
+use mathlib.Core.Path.{◌≡◌, refl}
 use mathlib.Core.Bool.{Bool, true, false, cond}
 use mathlib.Core.List.{List, [], ◌∷◌}
 use Prim.Native.Nat.{ℕ, suc}
 use lib.Dec.{eqb}
 use lib.Ieee.{Float}
-use borrow.Author.Tests.{eqb-true, eqb-false, ne_eqb}
+use borrow.Author.Tests.{eqb-true, eqb-false}
 use Rattle.recipe_checks.specs.declared.Step.{Step}
-use Rattle.recipe_checks.specs.declared.Chained.{Chained}
-use Rattle.recipe_checks.specs.Own.{own_number, found, noted}
-use Rattle.recipes.specs.Chain.{first_bad, all_noted}
-
-kept : (before : Chained) (i k : ℕ) → (before.number ≡ 0 → ⊥) → noted before i k ≡ before
-unfolding noted
-kept before i k f = rw (ne_eqb before.number 0 f)
-
--- a refusal found stays
-pub stays : (table : List Float) (i : ℕ) (steps : List Step) (before : Chained) → (before.number ≡ 0 → ⊥) → all_noted table i steps before ≡ before
-unfolding all_noted
-stays table i [] before f = refl
-stays table i (step ∷ steps) before f = ap (all_noted table (suc i) steps) (kept before i (own_number table step) f) ∙ stays table (suc i) steps before f
-
-first_of : (table : List Float) (i : ℕ) (step : Step) (steps : List Step) → all_noted table (suc i) steps (found 0 0) ≡ first_bad table (suc i) steps →
-    (b : Bool) → eqb (own_number table step) 0 ≡ b →
-    all_noted table (suc i) steps (noted (found 0 0) i (own_number table step)) ≡ cond b (first_bad table (suc i) steps) (found (own_number table step) i)
-unfolding noted
-first_of table i step steps later true e = rw e later
-first_of table i step steps later false e = rw e (stays table (suc i) steps (found (own_number table step) i) (eqb-false (own_number table step) 0 e))
-
--- looking at all from nothing found is the first bad recipe
-pub is_first : (table : List Float) (i : ℕ) (steps : List Step) → all_noted table i steps (found 0 0) ≡ first_bad table i steps
-unfolding all_noted first_bad
-is_first table i [] = refl
-is_first table i (step ∷ steps) = first_of table i step steps (is_first table (suc i) steps) (eqb (own_number table step) 0) refl
-
--- after 1 to 3
-pub found_by : (table : List Float) (steps : List Step) (frame : ℕ) (b : Bool) → eqb frame 0 ≡ b → all_noted table 0 steps (found frame 0) ≡ cond b (first_bad table 0 steps) (found frame 0)
-found_by table steps frame true e = ap (λ (k : ℕ). all_noted table 0 steps (found k 0)) (eqb-true frame 0 e) ∙ is_first table 0 steps
-found_by table steps frame false e = stays table 0 steps (found frame 0) (eqb-false frame 0 e)
+use Rattle.recipe_checks.specs.Own.{Chained, own_number, found}
+use Rattle.recipes.specs.Chain.{first_bad}
 
 -- nothing found: 1 to 3 let through, and no recipe is bad
 pub none_by : (table : List Float) (steps : List Step) (frame : ℕ) (b : Bool) → eqb frame 0 ≡ b → (cond b (first_bad table 0 steps) (found frame 0)).number ≡ 0 → (frame ≡ 0) × ((first_bad table 0 steps).number ≡ 0)

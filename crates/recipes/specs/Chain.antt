@@ -5,9 +5,8 @@ use Rattle.picture.specs.Planes.{bytes_of, cleared}
 use Rattle.picture.specs.Refusal.{first_of}
 use Rattle.picture.specs.Answer.{Answer, answered, settled, LentCopy, lent_copy}
 use Rattle.recipe_checks.specs.declared.Step.{Step}
-use Rattle.recipe_checks.specs.declared.Chained.{Chained}
-use Rattle.recipe_checks.specs.Own.{own_number, frame_checks, found, noted}
-use Rattle.recipe_checks.specs.Single.{ran_step, worked}
+use Rattle.recipe_checks.specs.Own.{Chained, own_number, frame_checks, found}
+use Rattle.recipe_checks.specs.Single.{single_call, worked}
 
 -- what stands past the end of a list: no operation has this number
 abbrev pub no_step : Step
@@ -37,11 +36,6 @@ unfoldable pub first_bad : List Float → ℕ → List Step → Chained
 first_bad table i [] = found 0 0
 first_bad table i (step ∷ steps) = cond (eqb (own_number table step) 0) (first_bad table (suc i) steps) (found (own_number table step) i)
 
--- what is found after looking at the recipes from i on
-unfoldable pub all_noted : List Float → ℕ → List Step → Chained → Chained
-all_noted table i [] before = before
-all_noted table i (step ∷ steps) before = all_noted table (suc i) steps (noted before i (own_number table step))
-
 -- 1 to 3 with index 0; else the first bad recipe's number and index
 unfoldable pub chain_found : ℕ → ℕ → ℕ → ℕ → ℕ → List Step → List Float → Chained
 chain_found picture w h scratch copy steps table =
@@ -49,9 +43,9 @@ chain_found picture w h scratch copy steps table =
     cond (eqb frame 0) (first_bad table 0 steps) (found frame 0)
 
 -- the recipes one after the other, as the calls leave the buffers
-unfoldable pub all_ran : List Float → ℕ → ℕ → Chained → List Step → LentCopy → LentCopy
-all_ran table w h before [] l = l
-all_ran table w h before (step ∷ steps) l = all_ran table w h before steps (ran_step table w h before step l)
+unfoldable pub all_ran : List Float → ℕ → ℕ → List Step → LentCopy → LentCopy
+all_ran table w h [] l = l
+all_ran table w h (step ∷ steps) l = all_ran table w h steps (single_call table w h step l).left
 
 -- the picture that the recipes make, one after the other
 unfoldable pub chained : List Float → ℕ → ℕ → List Step → List ℕ → List ℕ

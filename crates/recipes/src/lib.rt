@@ -3,9 +3,10 @@
 
 ghost use Rattle.std.specs.Prelude.{◌≡◌, ◌<◌, length};
 ghost use Rattle.picture.specs.Answer.{lent_copy};
-ghost use Rattle.recipes.specs.Chain.{step_at, all_noted, chain_answer, chain_outcome};
+ghost use Rattle.recipe_checks.specs.Own.{told};
+ghost use Rattle.recipes.specs.Chain.{step_at, first_bad, chain_answer, chain_outcome};
 
-use recipe_checks::{Chained, Step};
+use recipe_checks::{Step, Stopped};
 
 // Recipe i of the list.
 fn step_at(steps: &[Step], i: usize) -> Step
@@ -15,18 +16,15 @@ fn step_at(steps: &[Step], i: usize) -> Step
     steps[i]
 }
 
-// Looks at every recipe; the first refusal found stays.
-fn first_bad(before: Chained, steps: &[Step], table: &[f32]) -> Chained
-    ensures { result ≡ all_noted table.now 0 steps.now before }
+// Checks every recipe of the list, in order.
+fn check_steps(steps: &[Step], table: &[f32]) -> Result<(), Stopped>
+    ensures { told result ≡ first_bad table.now 0 steps.now }
 {
-    let mut found = before;
-    let mut i = 0;
-    while i < steps.len() {
+    for i in 0..steps.len() {
         let step = step_at(steps, i);
-        found = recipe_checks::look_at(found, i, step, table);
-        i += 1;
+        recipe_checks::check_at(step, i, table)?;
     }
-    found
+    Ok(())
 }
 
 // Checks every recipe of the list, and then runs them in order on a picture of w by h pixels.
@@ -38,16 +36,18 @@ pub fn recipes(
     copy: &mut [u8],
     steps: &[Step],
     table: &[f32],
-) -> Chained
-    ensures { chain_answer result (lent_copy picture.new scratch.new copy.new) ≡ chain_outcome picture.old w h scratch.old copy.old steps.now table.now }
+) -> Result<(), Stopped>
+    ensures { chain_answer (told result) (lent_copy picture.new scratch.new copy.new) ≡ chain_outcome picture.old w h scratch.old copy.old steps.now table.now }
 {
-    let frame = recipe_checks::frame_refusal(picture.len(), w, h, scratch.len(), copy.len());
-    let found = first_bad(frame, steps, table);
-    let mut i = 0;
-    while i < steps.len() {
+    recipe_checks::check_frame(picture.len(), w, h, scratch.len(), copy.len())?;
+    check_steps(steps, table)?;
+    for i in 0..steps.len() {
         let step = step_at(steps, i);
-        recipe_checks::run_step(found, step, picture, w, h, scratch, copy, table);
-        i += 1;
+        // All were checked, so that no call is refused.
+        let _ = recipe_checks::call(step, picture, w, h, scratch, copy, table);
     }
-    recipe_checks::finish(found, w, h, scratch, copy)
+    let k = picture::full_size(w, h).bytes();
+    picture::clear(scratch, k);
+    picture::clear(copy, k);
+    Ok(())
 }

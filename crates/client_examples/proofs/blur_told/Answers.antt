@@ -13,7 +13,7 @@ pub returns : goal.returns
 unfolding blur_outcome max_side
 returns c =
     let a = c.args in
-    let told = read _ _ _ _ _ c.blur.ensures in
+    let told = read _ _ _ _ _ (rw c.number_of.ensures c.blur-answer.ensures) in
     let passed = (each_passes (blur_checks (length a.picture.now) a.w a.h (length a.scratch.now) a.weights.now a.n a.strength a.edge) (omega arith)).0 in
     record {
       wide = λ zero. let s = ((right_sides _ _).0 (passed (sym zero ∙ told.number)).0).0 in omega arith;

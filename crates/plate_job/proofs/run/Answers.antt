@@ -21,4 +21,5 @@ returns-in_err-refuse_if c =
 pub returns : goal.returns
 unfolding answer_to
 returns c =
-    rw (le-leb (length c.args.input.now) longest_input (ltb-false _ _ (passing _ _ c.in_ok-refuse_if.ensures))) (job_roomy plate_blur c.args.input.now c.args.scratch.now (omega arith) c.plate_job.ensures)
+    let short = ltb-false _ _ (passing _ _ c.in_ok-refuse_if.ensures) in
+    rw (le-leb (length c.args.input.now) longest_input short) (job_roomy plate_blur c.args.input.now c.args.scratch.now (omega (arith, short)) c.plate_job.ensures)

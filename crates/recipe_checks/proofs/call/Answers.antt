@@ -5,12 +5,13 @@ use Prim.Native.Nat.{ℕ}
 use lib.Ieee.{Float}
 use borrow.Author.Tests.{eq-eqb, ne_eqb}
 use Rattle.picture.specs.Answer.{Answer, lent_copy}
+use Rattle.picture.specs.Refusal.{number, number_of}
 use Rattle.recipe_checks.specs.Single.{beside_both, kernel_call, single_call}
 use Rattle.recipe_checks.proofs.Known.{known_kernel}
 use Rattle.recipe_checks.proofs.call.Goals as goal
 
 pub returns-then-is_unknown : goal.returns-then-is_unknown
-unfolding single_call
+unfolding number number_of single_call
 returns-then-is_unknown c = rw (sym c.is_unknown.ensures ∙ c.if-is_unknown.true)
 
 pub returns-then-step-eq-SHIFT : goal.returns-then-step-eq-SHIFT

@@ -11,14 +11,14 @@ use Rattle.recipe_checks.proofs.kernel_part.Lts as lts
 use Rattle.recipe_checks.proofs.kernel_part.Reads as reads
 use Rattle.recipe_checks.proofs.kernel_part.Tie as tie
 
-abbrev the_After-least : Type 0
-the_After-least = lts.After-least tie.the-claims reads.Pre reads.Post
+abbrev the_After-min : Type 0
+the_After-min = lts.After-min tie.the-claims reads.Pre reads.Post
 
-ends-inside : (c : the_After-least) → let a = c.args in 33 * a.k + c.least.result ≤ length a.table.now
+ends-inside : (c : the_After-min) → let a = c.args in 33 * a.k + c.min.result ≤ length a.table.now
 unfolding max_taps
 ends-inside c =
     let a = c.args in
-    omega (arith, inside (length a.table.now) a.k c.requires, c.least.ensures, min-le_right a.taps 33)
+    omega (arith, inside (length a.table.now) a.k c.requires, c.min.ensures, min-le_right a.taps 33)
 
 pub overflow_mul-a : goal.overflow_mul-a
 overflow_mul-a c = omega (arith, c.ranges)
@@ -31,4 +31,4 @@ slice_bounds-result-end c = ends-inside c.before
 
 pub returns : goal.returns
 unfolding kernel_of max_taps
-returns c = let a = c.args in rw (add-sub_cancel_left (33 * a.k) c.least.result, c.least.ensures)
+returns c = let a = c.args in rw (add-sub_cancel_left (33 * a.k) c.min.result, c.min.ensures)

@@ -1,8 +1,8 @@
 -- Each case of the answer is its number, with the length in use behind the pointer.
 use Rattle.face_files.proofs.plates.corbelrush_plate_add.Goals as goal
 
-pub returns-in-Refused : goal.returns-in-Refused
-returns-in-Refused c = rw c.number.ensures (rw c.in-Refused.is at c.plate_add.ensures)
+pub returns-in-Err : goal.returns-in-Err
+returns-in-Err c = rw c.number.ensures (rw c.in-Err.is at c.plate_add.ensures)
 
-pub returns-in-InUse : goal.returns-in-InUse
-returns-in-InUse c = rw c.in-InUse.is at c.plate_add.ensures
+pub returns-in-Ok : goal.returns-in-Ok
+returns-in-Ok c = rw c.in-Ok.is at c.plate_add.ensures
