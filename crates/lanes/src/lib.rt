@@ -4,7 +4,7 @@
 
 ghost use Rattle.std.specs.Prelude.{◌≡◌, ℕ, ◌+◌, ◌≤◌, ◌<◌, T, length, get_or};
 ghost use Rattle.std.specs.Float.{nan};
-ghost use Rattle.binary32.specs.Ranges.{zero32, nonneg};
+ghost use Rattle.binary32.specs.Ranges.{nonneg};
 ghost use Rattle.binary32.specs.Round.{to_byte};
 ghost use Rattle.picture.specs.Spans.{Span, Run};
 ghost use Rattle.lanes.specs.Lanes.{widened, add_tap, lane_sum, lane_byte, Reaches, Weighable, group_room, Grouped};
