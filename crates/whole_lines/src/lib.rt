@@ -87,7 +87,7 @@ fn whole_line(
 }
 
 // Each of `lines` lines of len elements of stride bytes, convolved. The rows of a picture are h lines of w pixels; its columns are one line of h
-// rows.
+// rows. `each_line` of convolve is this loop round its own convolution: a trait for both would be longer than what they share.
 fn whole_lines(
     src: &[u8],
     dst: &mut [u8],
