@@ -9,6 +9,7 @@ use backwards::LevelSide;
 use picture::EdgeMode;
 
 // The shares of all inputs in output o, in the first elements of a row of zeros. The work row is zero before and after.
+// The depth, the numerators and the edge rule stay three parameters, here and above: `axis_shares` and the entries take them so.
 pub fn fill_axis(
     work: &mut [u32],
     row: &mut [u32],

@@ -22,7 +22,7 @@ pub fn place_outside(w: u32, h: u32, place: u64) -> bool
     w as u64 * h as u64 <= place
 }
 
-// The first of refusals 1, 4, 9, 21, 22 and 14 that fits; of whether a place lies outside.
+// The first of refusals 1, 4, 9, 21, 22 and 14 that fits; of whether a place lies outside, which one entry asks of one place and the other of two.
 #[tactic(auto, unfolding(picture::specs::Refusal::number_of, picture::specs::Refusal::number, picture::specs::Refusal::first_of, picture::specs::Refusal::first_else))]
 pub fn check_share(
     w: u32,
