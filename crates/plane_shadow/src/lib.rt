@@ -45,7 +45,8 @@ fn set_pixel_in(planes: &mut [u8], n: usize, i: usize, p: Pixel)
 }
 
 // The planes over a shadow of this tint and these alphas, or that shadow alone, all four in one pass over the pixels. Which of them is a
-// constant of the loop.
+// constant of the loop. It is the picture's loop, in composite; a trait of where a pixel lies would ask both forms' laws of its members, for
+// these four lines.
 fn lay_planes<const COMPOSITE: bool>(planes: &mut [u8], size: FullSize, alphas: &[u8], tint: Tint)
     requires { Alphas size planes.old alphas.now }
     ensures { planes.new ≡ painted_planes size.w size.h (tint_on COMPOSITE tint (plane_of planes.old size.w size.h) (plane_in alphas.now size.w)) }

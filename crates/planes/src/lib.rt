@@ -146,7 +146,8 @@ pub fn to_planes(src: &[u8], w: u32, h: u32, dst: &mut [u8]) -> Result<(), Refus
     Ok(())
 }
 
-// The picture of four planes of w by h, into the first 4wh bytes of `dst`.
+// The picture of four planes of w by h, into the first 4wh bytes of `dst`. One function for both ways would take its step, and that step's
+// contract, as a parameter: no plainer than these three lines.
 pub fn from_planes(src: &[u8], w: u32, h: u32, dst: &mut [u8]) -> Result<(), Refusal>
     ensures { answered (number_of result) dst.new ≡ from_planes_outcome src.now w h dst.old }
 {
