@@ -48,12 +48,7 @@ fn convert<W: Way>(to: &mut [u8], from: &[u8])
     let mut words = [0u32; 32];
     let mut factors = [0u8; 128];
     let whole = to.len() / 128 * 128;
-    convert_blocks::<W>(
-        &mut to[..whole],
-        &from[..whole],
-        &mut words,
-        &mut factors,
-    );
+    convert_blocks::<W>(&mut to[..whole], &from[..whole], &mut words, &mut factors);
     let mut last_words = [0u32; 32];
     let mut last_factors = [0u8; 128];
     convert_rest::<W>(

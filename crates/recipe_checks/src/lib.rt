@@ -83,10 +83,7 @@ fn is_unknown(step: Step, weights: usize) -> bool
 fn check_shift(step: Step) -> Result<(), Refusal>
     ensures { number_of result ≡ first_of (shift_own step) }
 {
-    refuse_if(
-        shift::wrong_offsets(step.dx, step.dy),
-        Refusal::NotFinite,
-    )
+    refuse_if(shift::wrong_offsets(step.dx, step.dy), Refusal::NotFinite)
 }
 
 // Checks 7 and 9 of a blur.
@@ -160,7 +157,13 @@ pub fn check_at(step: Step, i: usize, table: &[f32]) -> Result<(), Stopped>
 
 // Checks 1 to 3, of the lent buffers' lengths.
 #[tactic(auto, unfolding(picture::specs::Refusal::number_of, picture::specs::Refusal::number, picture::specs::Refusal::first_of, picture::specs::Refusal::first_else))]
-pub fn check_frame(picture: usize, w: u32, h: u32, scratch: usize, copy: usize) -> Result<(), Refusal>
+pub fn check_frame(
+    picture: usize,
+    w: u32,
+    h: u32,
+    scratch: usize,
+    copy: usize,
+) -> Result<(), Refusal>
     ensures { number_of result ≡ first_of (frame_checks picture w h scratch copy) }
 {
     picture::check_picture(picture, w, h)?;
