@@ -23,13 +23,3 @@ head_by number i later false e z = absurd (eqb-false number 0 e z)
 pub head_good : (table : List Float) (i : ℕ) (step : Step) (steps : List Step) → (first_bad table i (step ∷ steps)).number ≡ 0 → (own_number table step ≡ 0) × ((first_bad table (suc i) steps).number ≡ 0)
 unfolding first_bad
 head_good table i step steps z = head_by (own_number table step) i (first_bad table (suc i) steps) (eqb (own_number table step) 0) refl z
-
-good_by : (number i : ℕ) (later : Chained) (b : Bool) → eqb number 0 ≡ b → (later.number ≡ 0 → later ≡ found 0 0) → (cond b later (found number i)).number ≡ 0 → cond b later (found number i) ≡ found 0 0
-good_by number i later true e ih z = ih z
-good_by number i later false e ih z = absurd (eqb-false number 0 e z)
-
--- where none is bad the index is 0
-pub none_bad : (table : List Float) (i : ℕ) (steps : List Step) → (first_bad table i steps).number ≡ 0 → first_bad table i steps ≡ found 0 0
-unfolding first_bad
-none_bad table i [] z = refl
-none_bad table i (step ∷ steps) z = good_by (own_number table step) i (first_bad table (suc i) steps) (eqb (own_number table step) 0) refl (none_bad table (suc i) steps) z
