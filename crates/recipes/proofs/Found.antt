@@ -1,11 +1,11 @@
 -- What is found of a list: the first bad recipe stays, and where none is bad every recipe is good.
-use mathlib.Core.Path.{◌≡◌, refl}
+use mathlib.Core.Path.{◌≡◌, refl, ◌∙◌, ap}
 use mathlib.Core.Bool.{Bool, true, false, cond}
 use mathlib.Core.List.{List, [], ◌∷◌}
 use Prim.Native.Nat.{ℕ, suc}
 use lib.Dec.{eqb}
 use lib.Ieee.{Float}
-use borrow.Author.Tests.{eqb-true, eqb-false}
+use borrow.Author.Tests.{eqb-true, eqb-false, ne_eqb}
 use Rattle.recipe_checks.specs.declared.Step.{Step}
 use Rattle.recipe_checks.specs.Own.{Chained, own_number, found}
 use Rattle.recipes.specs.Chain.{first_bad}
@@ -23,3 +23,46 @@ head_by number i later false e z = absurd (eqb-false number 0 e z)
 pub head_good : (table : List Float) (i : ℕ) (step : Step) (steps : List Step) → (first_bad table i (step ∷ steps)).number ≡ 0 → (own_number table step ≡ 0) × ((first_bad table (suc i) steps).number ≡ 0)
 unfolding first_bad
 head_good table i step steps z = head_by (own_number table step) i (first_bad table (suc i) steps) (eqb (own_number table step) 0) refl z
+
+good_by : (number i : ℕ) (later : Chained) (b : Bool) → eqb number 0 ≡ b → (later.number ≡ 0 → later ≡ found 0 0) → (cond b later (found number i)).number ≡ 0 → cond b later (found number i) ≡ found 0 0
+good_by number i later true e ih z = ih z
+good_by number i later false e ih z = absurd (eqb-false number 0 e z)
+
+-- where none is bad the index is 0
+pub none_bad : (table : List Float) (i : ℕ) (steps : List Step) → (first_bad table i steps).number ≡ 0 → first_bad table i steps ≡ found 0 0
+unfolding first_bad
+none_bad table i [] z = refl
+none_bad table i (step ∷ steps) z = good_by (own_number table step) i (first_bad table (suc i) steps) (eqb (own_number table step) 0) refl (none_bad table (suc i) steps) z
+
+-- ---- looking at all recipes, whatever was found before
+-- what is found so far, and the number of recipe i: the first that is not 0 stays
+unfoldable pub noted : Chained → ℕ → ℕ → Chained
+noted before i number = cond (eqb before.number 0) (cond (eqb number 0) before (found number i)) before
+
+-- what is found after looking at the recipes from i on
+unfoldable pub all_noted : List Float → ℕ → List Step → Chained → Chained
+all_noted table i [] before = before
+all_noted table i (step ∷ steps) before = all_noted table (suc i) steps (noted before i (own_number table step))
+
+kept : (before : Chained) (i k : ℕ) → (before.number ≡ 0 → ⊥) → noted before i k ≡ before
+unfolding noted
+kept before i k f = rw (ne_eqb before.number 0 f)
+
+-- a refusal found stays
+stays : (table : List Float) (i : ℕ) (steps : List Step) (before : Chained) → (before.number ≡ 0 → ⊥) → all_noted table i steps before ≡ before
+unfolding all_noted
+stays table i [] before f = refl
+stays table i (step ∷ steps) before f = ap (all_noted table (suc i) steps) (kept before i (own_number table step) f) ∙ stays table (suc i) steps before f
+
+first_found : (table : List Float) (i : ℕ) (step : Step) (steps : List Step) → all_noted table (suc i) steps (found 0 0) ≡ first_bad table (suc i) steps →
+    (b : Bool) → eqb (own_number table step) 0 ≡ b →
+    all_noted table (suc i) steps (noted (found 0 0) i (own_number table step)) ≡ cond b (first_bad table (suc i) steps) (found (own_number table step) i)
+unfolding noted
+first_found table i step steps later true e = rw e later
+first_found table i step steps later false e = rw e (stays table (suc i) steps (found (own_number table step) i) (eqb-false (own_number table step) 0 e))
+
+-- looking at all from nothing found is the first bad recipe
+pub is_first : (table : List Float) (i : ℕ) (steps : List Step) → all_noted table i steps (found 0 0) ≡ first_bad table i steps
+unfolding all_noted first_bad
+is_first table i [] = refl
+is_first table i (step ∷ steps) = first_found table i step steps (is_first table (suc i) steps) (eqb (own_number table step) 0) refl
