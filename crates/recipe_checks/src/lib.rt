@@ -10,7 +10,7 @@ ghost use Rattle.recipe_checks.specs.Single.{kernel_call, single_call};
 use drop_shadow::Recipe;
 use picture::{Refusal, refuse_if};
 
-// The operations of a recipe.
+// The operations of a recipe, by the numbers that C lends in a `Step`: its layout and its numbers are those of include/corbelrush.h.
 pub const BLUR: u32 = 0;
 
 pub const SHIFT: u32 = 1;
@@ -51,6 +51,7 @@ impl From<Refusal> for Stopped {
     }
 }
 
+// How a recipe casts a shadow.
 fn recipe_of(step: Step) -> Recipe
     ensures { result ≡ recipe_of step }
 {

@@ -39,7 +39,7 @@ fn eight(words: &[u64]) -> [Step; 8] {
     array::from_fn(|i| step_in(words, 13 * i))
 }
 
-// The call itself, with the array lent whole.
+// The call itself, with the array lent whole. It answers the number, as the function for C does.
 fn lent(
     picture: &mut [u8],
     w: u32,
