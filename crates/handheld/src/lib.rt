@@ -19,5 +19,5 @@ pub extern "C" fn corbelrush_blur_whole(
 ) -> u32
     ensures { answered result (lent picture.new scratch.new) ≡ whole_outcome picture.old w h scratch.old numerators.now n edge }
 {
-    whole_blur::blur_whole(picture, w, h, scratch, numerators, n, edge)
+    picture::number_of(whole_blur::blur_whole(picture, w, h, scratch, numerators, n, edge))
 }
