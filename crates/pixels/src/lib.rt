@@ -68,7 +68,9 @@ pub fn copy_bytes(to: &mut [u8], from: &[u8])
     requires { length to.old ≡ length from.now }
     ensures { to.new ≡ from.now }
 {
-    to.copy_from_slice(from);
+    for i in 0..to.len() {
+        to[i] = from[i];
+    }
 }
 
 // Copies n bytes, from p on, into dst from q on.
@@ -77,5 +79,7 @@ pub fn copy_run(src: &[u8], p: usize, dst: &mut [u8], q: usize, n: usize)
     requires fact_2 { q + n ≤ length dst.old }
     ensures { Run 0 dst.old dst.new q n (λ k. get_or src.now (p + k) 0) }
 {
-    dst[q..q + n].copy_from_slice(&src[p..p + n]);
+    for k in 0..n {
+        dst[q + k] = src[p + k];
+    }
 }
