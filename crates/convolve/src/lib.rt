@@ -139,6 +139,8 @@ fn convolve_long(
 
 // Each of `lines` lines of len elements of stride bytes, convolved. The rows of a picture of pixels are h lines of w
 // pixels, and its columns are one line of h rows; those of four planes are 4h lines of w bytes, and four lines of h rows.
+// The large blocks are called twice, so that they stay a function of their own: as a part of this one their 32 KiB would be on the stack of small
+// pictures too.
 pub fn convolve_lines(
     src: &[u8],
     dst: &mut [u8],
@@ -151,7 +153,9 @@ pub fn convolve_lines(
     requires { ConvolveLines src.now dst.old weights.now lines len stride }
     ensures { dst.new ≡ passed (convolve mode weights.now) src.now lines len len stride }
 {
-    if FEW < lines || SHORT / stride < len + weights.len() - 1 {
+    if FEW < lines {
+        convolve_long(src, dst, lines, len, stride, weights, mode);
+    } else if SHORT / stride < len + weights.len() - 1 {
         convolve_long(src, dst, lines, len, stride, weights, mode);
     } else {
         convolve_short(src, dst, lines, len, stride, weights, mode);
