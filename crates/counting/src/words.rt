@@ -23,13 +23,14 @@ pub fn unpack(word: u32) -> Pixel
     Pixel { r, g, b, a }
 }
 
-// Packs the pixels from `from` on, one into each word.
+// Packs the pixels from `from` on, one into each word. By the index, as the loops of `halves` that read these words: over `iter_mut` the words of
+// a block are stored and read again, where they can stay in registers.
 pub fn pack_pixels(words: &mut [u32], picture: &[u8], from: usize)
     requires { 4 * (from + length words.old) ≤ length picture.now }
     ensures { words.new ≡ build (length words.old) (λ k. packed (pixel_at picture.now (from + k))) }
 {
-    for (k, word) in words.iter_mut().enumerate() {
-        *word = pixels::pack(pixel_at(picture, from + k));
+    for k in 0..words.len() {
+        words[k] = pixels::pack(pixel_at(picture, from + k));
     }
 }
 

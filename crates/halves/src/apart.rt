@@ -1,5 +1,6 @@
 // 80 pixels taken apart into four planes of 80 bytes: words, halves of words, bytes. Each loop writes half as wide as it reads, which the
-// processors' vectors do at once, on Arm and on plain x86-64.
+// processors' vectors do at once, on Arm and on plain x86-64. They go by the index: over an iterator the words of a block leave the registers,
+// and taking apart took a quarter more instructions.
 ghost use Rattle.std.specs.Prelude.{◌≡◌, ◌+◌, ◌*◌, ◌/◌, ◌%◌, ◌≤◌, ◌<◌, length, get_or};
 ghost use Rattle.picture.specs.Build.{build};
 ghost use Rattle.picture.specs.Spans.{Run};
@@ -13,8 +14,8 @@ fn take_halves(halves: &mut [u16], words: &[u32], by: u32)
     requires fact_2 { 0 < by }
     ensures { Run 0 halves.old halves.new 0 (length words.now) (λ k. get_or words.now k 0 / by % 65536) }
 {
-    for (k, half) in halves.iter_mut().enumerate() {
-        *half = (words[k] / by % 65536) as u16;
+    for k in 0..halves.len() {
+        halves[k] = (words[k] / by % 65536) as u16;
     }
 }
 
@@ -24,8 +25,8 @@ fn lay_bytes(dst: &mut [u8], to: usize, halves: &[u16], by: u16)
     requires fact_2 { 0 < by }
     ensures { Run 0 dst.old dst.new to (length halves.now) (λ k. get_or halves.now k 0 / by % 256) }
 {
-    for (k, half) in halves.iter().enumerate() {
-        dst[to + k] = (*half / by % 256) as u8;
+    for k in 0..halves.len() {
+        dst[to + k] = (halves[k] / by % 256) as u8;
     }
 }
 
