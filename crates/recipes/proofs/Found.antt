@@ -8,7 +8,7 @@ use lib.Ieee.{Float}
 use borrow.Author.Tests.{eqb-true, eqb-false, ne_eqb}
 use Rattle.recipe_checks.specs.declared.Step.{Step}
 use Rattle.recipe_checks.specs.Own.{Chained, own_number, found}
-use Rattle.recipes.specs.Chain.{first_bad}
+use Rattle.recipes.specs.Chain.{first_bad, noted, all_noted}
 
 -- nothing found: 1 to 3 let through, and no recipe is bad
 pub none_by : (table : List Float) (steps : List Step) (frame : ℕ) (b : Bool) → eqb frame 0 ≡ b → (cond b (first_bad table 0 steps) (found frame 0)).number ≡ 0 → (frame ≡ 0) × ((first_bad table 0 steps).number ≡ 0)
@@ -35,15 +35,6 @@ none_bad table i [] z = refl
 none_bad table i (step ∷ steps) z = good_by (own_number table step) i (first_bad table (suc i) steps) (eqb (own_number table step) 0) refl (none_bad table (suc i) steps) z
 
 -- ---- looking at all recipes, whatever was found before
--- what is found so far, and the number of recipe i: the first that is not 0 stays
-unfoldable pub noted : Chained → ℕ → ℕ → Chained
-noted before i number = cond (eqb before.number 0) (cond (eqb number 0) before (found number i)) before
-
--- what is found after looking at the recipes from i on
-unfoldable pub all_noted : List Float → ℕ → List Step → Chained → Chained
-all_noted table i [] before = before
-all_noted table i (step ∷ steps) before = all_noted table (suc i) steps (noted before i (own_number table step))
-
 kept : (before : Chained) (i k : ℕ) → (before.number ≡ 0 → ⊥) → noted before i k ≡ before
 unfolding noted
 kept before i k f = rw (ne_eqb before.number 0 f)

@@ -36,6 +36,15 @@ unfoldable pub first_bad : List Float → ℕ → List Step → Chained
 first_bad table i [] = found 0 0
 first_bad table i (step ∷ steps) = cond (eqb (own_number table step) 0) (first_bad table (suc i) steps) (found (own_number table step) i)
 
+-- what is found so far, and the number of recipe i: the first that is not 0 stays
+unfoldable pub noted : Chained → ℕ → ℕ → Chained
+noted before i number = cond (eqb before.number 0) (cond (eqb number 0) before (found number i)) before
+
+-- what is found after looking at the recipes from i on
+unfoldable pub all_noted : List Float → ℕ → List Step → Chained → Chained
+all_noted table i [] before = before
+all_noted table i (step ∷ steps) before = all_noted table (suc i) steps (noted before i (own_number table step))
+
 -- 1 to 3 with index 0; else the first bad recipe's number and index
 unfoldable pub chain_found : ℕ → ℕ → ℕ → ℕ → ℕ → List Step → List Float → Chained
 chain_found picture w h scratch copy steps table =

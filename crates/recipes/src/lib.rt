@@ -3,8 +3,8 @@
 
 ghost use Rattle.std.specs.Prelude.{◌≡◌, ◌<◌, length};
 ghost use Rattle.picture.specs.Answer.{lent_copy};
-ghost use Rattle.recipe_checks.specs.Own.{told};
-ghost use Rattle.recipes.specs.Chain.{step_at, first_bad, chain_answer, chain_outcome};
+ghost use Rattle.recipe_checks.specs.Own.{told, found};
+ghost use Rattle.recipes.specs.Chain.{step_at, all_noted, chain_answer, chain_outcome};
 
 use recipe_checks::{Step, Stopped};
 
@@ -16,9 +16,9 @@ fn step_at(steps: &[Step], i: usize) -> Step
     steps[i]
 }
 
-// Checks every recipe of the list, in order.
+// Checks every recipe of the list, in order. To end at the first that is refused finds what looking at all of them does.
 fn check_steps(steps: &[Step], table: &[f32]) -> Result<(), Stopped>
-    ensures { told result ≡ first_bad table.now 0 steps.now }
+    ensures { told result ≡ all_noted table.now 0 steps.now (found 0 0) }
 {
     for i in 0..steps.len() {
         let step = step_at(steps, i);

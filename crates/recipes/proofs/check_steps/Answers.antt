@@ -6,6 +6,7 @@ use Rattle.recipe_checks.specs.declared.Step.{Step}
 use Rattle.recipe_checks.specs.Own.{Chained, own_number, found}
 use Rattle.recipes.specs.Chain.{step_at, no_step}
 use Rattle.recipes.proofs.Folds.{good_here, bad_here, none_left}
+use Rattle.recipes.proofs.Found.{is_first}
 use Rattle.recipes.proofs.check_steps.Goals as goal
 
 pub loop-i-preserved : goal.loop-i-preserved
@@ -27,7 +28,9 @@ returns-in_err-check_at c =
     let own = ap (own_number a.table.now) c.step_at-step.ensures in
     let e = c.in_err-check_at.ensures ∙ ap (λ (k : ℕ). cond (eqb k 0) (found 0 0) (found k i)) own in
     rw (p.1, p.2)
-    (bad_here a.table.now a.steps.now i c.loop-i-test.true _ (λ z. omega (arith, number_some stopped.refusal, z)) e ∙ c.loop-i.invariant)
+    (bad_here a.table.now a.steps.now i c.loop-i-test.true _ (λ z. omega (arith, number_some stopped.refusal, z)) e ∙ c.loop-i.invariant ∙ sym (is_first a.table.now 0 a.steps.now))
 
 pub returns : goal.returns
-returns c = sym (none_left c.args.table.now c.args.steps.now c.loop-i.i c.loop-i-test.false) ∙ c.loop-i.invariant
+returns c =
+    let a = c.args in
+    sym (none_left a.table.now a.steps.now c.loop-i.i c.loop-i-test.false) ∙ c.loop-i.invariant ∙ sym (is_first a.table.now 0 a.steps.now)

@@ -13,6 +13,7 @@ use Rattle.recipe_checks.specs.Own.{frame_checks}
 use Rattle.recipe_checks.specs.Single.{single_call}
 use Rattle.recipes.specs.Chain.{step_at, all_ran}
 use Rattle.recipes.proofs.Folds.{ran_more, none_ran}
+use Rattle.recipes.proofs.Found.{is_first}
 use Rattle.recipes.proofs.OneCall.{Framed}
 use Rattle.recipes.proofs.Done.{framed_of, refused_frame, refused_step, comes_to}
 use Rattle.recipes.proofs.recipes.Goals.{In_ok-check_frame, After-bytes-k}
@@ -42,7 +43,7 @@ returns-in_err-check_steps c =
     let p = err_from_is_err_and c.from_residual-in_err-check_steps.result c.from_residual-in_err-check_steps.ensures.1 in
     rw (p.1, p.2)
     (refused_step a.picture.now a.w a.h a.scratch.now a.copy.now a.steps.now a.table.now _ (λ z. omega (arith, number_some s.refusal, z))
-    (passed (goal.at.returns-in_err-check_steps c).In_ok-check_frame) c.in_err-check_steps.ensures)
+    (passed (goal.at.returns-in_err-check_steps c).In_ok-check_frame) (c.in_err-check_steps.ensures ∙ is_first a.table.now 0 a.steps.now))
 
 pub loop-i-preserved : goal.loop-i-preserved
 unfolding step_at
@@ -92,4 +93,4 @@ returns c =
     let l = lent_copy c.loop-i.picture c.loop-i.scratch c.loop-i.copy in
     let all = sym (none_ran table a.w a.h steps c.loop-i.i l c.loop-i-test.false) ∙ c.loop-i.invariant in
     rw (c.clear.ensures, c.clear-2.ensures, k-is at.After-bytes-k)
-    (comes_to a.picture.now a.w a.h a.scratch.now a.copy.now steps table (passed at.In_ok-check_frame) c.in_ok-check_steps.ensures c.loop-i.picture c.loop-i.scratch c.loop-i.copy all)
+    (comes_to a.picture.now a.w a.h a.scratch.now a.copy.now steps table (passed at.In_ok-check_frame) (c.in_ok-check_steps.ensures ∙ is_first table 0 steps) c.loop-i.picture c.loop-i.scratch c.loop-i.copy all)
