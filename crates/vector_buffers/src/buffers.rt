@@ -33,7 +33,7 @@ fn bytes_from(v: &[u64], at: usize, n: usize) -> [u8; LONGEST]
     ensures value { result ≡ bytes_from v.now at n }
     ensures value_2 { 2048 ≡ length result }
 {
-    numbers_from(v, at, n).map(values::byte)
+    array::from_fn(|i| values::byte(number_at(v, at, n, i)))
 }
 
 // A part's bytes, as they are before the call.
@@ -81,5 +81,5 @@ pub fn floats(v: &[u64], p: Part) -> [f32; LONGEST]
     ensures value { result ≡ floats_before v.now p }
     ensures value_2 { 2048 ≡ length result }
 {
-    numbers_from(v, p.before, p.count).map(values::float)
+    array::from_fn(|i| values::float(number_at(v, p.before, p.count, i)))
 }

@@ -1,20 +1,35 @@
 // Words of 32 bits, filled with the numbers of a vector and compared with them.
-ghost use Rattle.std.specs.Prelude.{◌≡◌, map, ◌+◌, ◌≤◌, length};
+ghost use Rattle.std.specs.Prelude.{◌≡◌, ◌+◌, ◌≤◌, ◌<◌, length, get_or};
 ghost use Rattle.vector_values.specs.Values.{tells, word_of};
 ghost use Rattle.vector_parts.specs.Parts.{PartWithin};
 ghost use Rattle.vector_words.specs.Words.{words_from};
 
+use std::array;
 use vector_buffers::buffers;
 use vector_parts::parts::Part;
 use vector_values::values;
 use vector_values::values::LONGEST;
+
+// Number i of a list as a word.
+fn word_at(numbers: &[u64], i: usize) -> u32
+    requires { i < length numbers.now }
+    ensures { result ≡ word_of (get_or numbers.now i 0) }
+{
+    values::word(numbers[i])
+}
 
 fn words_from(v: &[u64], at: usize, n: usize) -> [u32; LONGEST]
     requires { at + n ≤ length v.now }
     ensures value { result ≡ words_from v.now at n }
     ensures value_2 { 2048 ≡ length result }
 {
-    buffers::numbers_from(v, at, n).map(values::word)
+    let numbers = buffers::numbers_from(v, at, n);
+    array::from_fn(
+        |i: usize| -> u32
+            requires { i < length numbers }
+            ensures { result ≡ word_of (get_or numbers i 0) }
+        { word_at(&numbers, i) },
+    )
 }
 
 // A part's words, as they are before the call.
